@@ -1,5 +1,7 @@
 -- A job that has begun, and its end.
-use Rattle.std.proofs.Common.{◌≡◌, ◌≤◌, ℕ, sym, ap, subst, ◌∙◌, inl, arith, List, Option, Some, None}
+use Rattle.std.proofs.Common.{◌≡◌, ◌≢◌, ◌≤◌, ℕ, Bool, true, false, refl, sym, ap, subst, ◌∙◌, inl, arith, List, Option, Some, None, Result, Ok, Err}
+use Rattle.std.specs.Prelude.{OnOk}
+use Rattle.kt_disk.specs.Disk.{Files}
 use Rattle.kt_diskrowset.specs.declared.data.RowSetData.{RowSetData}
 use Rattle.kt_history.specs.declared.event.Event.{Event}
 use Rattle.kt_histlaws.specs.Parts.{part}
@@ -15,12 +17,19 @@ use Rattle.kt_engine.specs.JobCalls.{ByWant, HasEndedBy}
 use Rattle.kt_engine.specs.Visits.{IsVisit, root_of}
 use Rattle.kt_engine.proofs.Visiting.{root_stays}
 use Rattle.kt_maint.specs.Done.{GivesFor}
-use Rattle.kt_maint.specs.Runs.{KeepsAsks, IsReady, JobIsAt, HasNoDevice, StandsAs, HasRun, AddsStop, ran}
+use Rattle.kt_engine.specs.declared.job.MaintNo.{MaintNo}
+use Rattle.kt_engine.specs.declared.job.MaintNo.TheVariants as no
+use Rattle.kt_maint.specs.Runs.{KeepsAsks, IsReady, JobIsAt, HasNoDevice, StandsAs, HasRun, RunsAs, AddsStop, is_pass, turn_of}
+use Rattle.kt_maint.specs.Outside.{EndsAs, HasEnded, LeftAs, StartsAs, ended}
+use Rattle.kt_maint.specs.declared.jobs.Start.{Start}
+use Rattle.kt_maint.specs.declared.jobs.Start.TheVariants as start
+use Rattle.kt_maint.specs.declared.tries.Turn.{Turn}
+use Rattle.kt_maint.specs.declared.tries.Turn.TheVariants as turn
 use Rattle.kt_maint.specs.DeltaRuns.{DeltasAt}
-use Rattle.kt_maint.specs.JobRuns.{BeginsBy, MayEnd}
+use Rattle.kt_maint.specs.JobRuns.{BeginsBy, HasBegunNow, MayEnd, MergeBegins}
 use Rattle.kt_maint.proofs.Merged.{gives_then}
 use Rattle.kt_maint.proofs.Stages.{some_is}
-use Rattle.kt_maint.proofs.Readying.{no_device}
+use Rattle.kt_maint.proofs.Readying.{none_has}
 use Rattle.kt_maint.proofs.Visiting.{stands_same, stands_then}
 
 -- of the tablet a flush freezes alone, and a compaction nothing
@@ -146,20 +155,78 @@ gives_for a b (want.FlushDeltas r) job root g = g
 gives_for a b (want.Minor r) job root g = g
 gives_for a b (want.Major r) job root g = g
 
--- the pass asked once more, and what it asked for is done
-module _ {L D C : Type 0} (n : ℕ) (e0 e1 e2 e3 e4 : EngineView L D C) (w : Want) (begun : HasBegun n e1 e2 w) (asks : KeepsAsks n e2.upkeep e3.upkeep) (ends : MayEnd e3 n w) (over : IsOver n ends.job e3 e4) where
-  pub has_run : e1.upkeep ≡ e0.upkeep → IsVisit n e3 e4 → HasRun n w e0 e4
-  has_run same visit = record {
-    job = ends.job;
-    upkeep = over.own ∙ ap (λ (x : Want). job_finished x (upkeep_at n e3.upkeep.passes)) ends.given.want_is ∙ ap (job_finished w) asks.own
-        ∙ ap (λ (u : UpkeepView). job_finished w (record u { job = job_of n e3.upkeep })) begun.own
-        ∙ ap (λ (o : Option JobView). record (ran w ends.job (upkeep_at n e1.upkeep.passes)) { done = o }) ends.has
-        ∙ ap (λ (u : UpkeepsView). ran w ends.job (upkeep_at n u.passes)) same;
-    given = record { want_is = ends.given.want_is; gives = gives_for e3 e4 w ends.job (root_stays n e3 e4 visit) ends.given.gives };
-  }
+-- what a job has given is so when it is over
+pub has_ended : {L D C : Type 0} (n : ℕ) (a b : EngineView L D C) (w : Want) (ends : MayEnd a n w) → IsOver n ends.job a b → IsVisit n a b → HasEnded n w a b
+has_ended n a b w ends over visit = record {
+  job = ends.job;
+  upkeep = over.own ∙ ap (λ (x : Want). job_finished x (upkeep_at n a.upkeep.passes)) ends.given.want_is ∙ ap (λ (o : Option JobView). record (ended w ends.job (upkeep_at n a.upkeep.passes)) { done = o }) ends.has;
+  given = record { want_is = ends.given.want_is; gives = gives_for a b w ends.job (root_stays n a b visit) ends.given.gives };
+}
 
-  pub run_home : IsReady e1 → e3.log ≡ e2.log → e3.store.holder ≡ None → HasNoDevice n e4
-  run_home r log home =
-      no_device n e4
-      (ap (λ l. l.holder) over.beside.0 ∙ ap (λ l. l.holder) log ∙ ap (λ (v : EngineView L D C). v.log.holder) begun.beside ∙ r.settled.2)
-      (ap (λ s. s.holder) over.beside.1 ∙ home)
+-- behind steps of it
+pub ended_then : {L D C : Type 0} (n : ℕ) (a b c : EngineView L D C) (w : Want) → KeepsAsks n a.upkeep b.upkeep → HasEnded n w b c → HasEnded n w a c
+ended_then n a b c w asks h = record { job = h.job; upkeep = h.upkeep ∙ ap (ended w h.job) asks.own; given = h.given }
+
+-- the pass asked once more, and what it asked for is done
+pub has_run : {L D C : Type 0} (n : ℕ) (a b c : EngineView L D C) (w : Want) → HasBegunNow n w a b → HasEnded n w b c → HasRun n w a c
+has_run n a b c w begun h = record { job = h.job; upkeep = h.upkeep ∙ ap (ended w h.job) begun.own; given = h.given }
+
+-- however it ended
+pub runs_then : {L D C : Type 0} (n : ℕ) (a b c : EngineView L D C) (w : Want) (no : MaintNo) → EndsAs n w b c (Err no) → RunsAs n w a c (turn_of no)
+runs_then n a b c w no.Memory h = h
+runs_then n a b c w no.Stopped h = h
+
+-- where the job is carried out, and closed
+module _ {L D C : Type 0} (n : ℕ) (a b c : EngineView L D C) (w : Want) (carried result : Result (Unit {0}) MaintNo) where
+  pub ends_as_carried : result ≡ carried → c.log ≡ b.log → c.store ≡ b.store → is_pass b.log.holder n ≡ false → b.store.holder ≡ None → (carried ≢ Err no.Stopped → KeepsAsks n a.upkeep b.upkeep) → OnOk carried (MayEnd b n w) → (result ≡ Err no.Stopped → c ≡ b)
+      → (carried ≡ Err no.Stopped → b.tablet.core.stopped ≡ true) → OnOk result ((x : Want) → MayEnd b n x → HasEnded n x b c) → EndsAs n w a c result
+  ends_as_carried same log store free home asks may still stops ended = by carried same asks may stops result refl ended still
+    where
+      away : HasNoDevice n c
+      away = record { log = ap (λ l. is_pass l.holder n) log ∙ free; store = none_has c.store.holder n (ap (λ s. s.holder) store ∙ home) }
+
+      by : (x : Result (Unit {0}) MaintNo) → result ≡ x → (x ≢ Err no.Stopped → KeepsAsks n a.upkeep b.upkeep) → OnOk x (MayEnd b n w) → (x ≡ Err no.Stopped → b.tablet.core.stopped ≡ true) → (r : Result (Unit {0}) MaintNo) → r ≡ result → OnOk r ((y : Want) → MayEnd b n y → HasEnded n y b c)
+          → (r ≡ Err no.Stopped → c ≡ b) → EndsAs n w a c r
+      by (Ok done) is keeps may stops (Ok also) e ended still = (ended_then n a b c w (keeps (λ h. cc)) (ended w may), away)
+      by (Ok done) is keeps may stops (Err e) i ended still = let never : ◌≡◌ {A = Result (Unit {0}) MaintNo} (Err e) (Ok done) = i ∙ is in absurd cc
+      by (Err x) is keeps may stops (Ok also) e ended still = let never : ◌≡◌ {A = Result (Unit {0}) MaintNo} (Ok also) (Err x) = e ∙ is in absurd cc
+      by (Err x) is keeps may stops (Err no.Memory) e ended still = away
+      by (Err x) is keeps may stops (Err no.Stopped) e ended still = (ap (λ (v : EngineView L D C). v.tablet.core.stopped) (still refl) ∙ stops (sym (e ∙ is)), away)
+
+-- what is so of an answer
+pub on_ok : (r : Result (Unit {0}) MaintNo) (A : Type 0) {B : Type 0} → (A → B) → OnOk r A → OnOk r B
+on_ok (Ok done) A f a = f a
+on_ok (Err e) A f a = tt
+
+-- the compaction that began is outside, or is given up
+pub starts_as : {L D C : Type 0} (tells : Bool) (seen : D → Files) (n : ℕ) (w : Want) (taken : List ℕ) (a b c : EngineView L D C) (s : Start Turn D) → w ≡ want.Compact taken → HasBegunNow n w a b
+    → ((rs : List ℕ) → MergeBegins b n (want.Compact rs) → LeftAs tells seen n (want.Compact rs) b c s) → StartsAs tells seen n w a c s
+starts_as {L} {D} {C} tells seen n w taken a b c s is begun left =
+    by s (subst (λ (x : Want). LeftAs tells seen n x b c s) (sym is) (left taken (subst (BeginsBy b n) is begun.begins)))
+  where
+    by : (x : Start Turn D) → LeftAs tells seen n w b c x → StartsAs tells seen n w a c x
+    by (start.Over t) h = subst (RunsAs n w a c) (sym h.0) h.1
+    by (start.Out out) h = record {
+      away = h.0;
+      asks = h.1.own ∙ ap (λ (u : UpkeepView). record u { job = job_of n c.upkeep }) begun.own ∙ ap (λ (o : Option JobView). record (asked w begun.job (upkeep_at n a.upkeep.passes)) { job = o }) h.0.own;
+    }
+
+-- a job that is done may end
+pub done_of : {L D C : Type 0} (n : ℕ) (v : EngineView L D C) (r : Result (Unit {0}) MaintNo) (done : Unit {0}) → r ≡ Ok done → OnOk r ((w : Want) × MayEnd v n w) → (w : Want) × MayEnd v n w
+done_of n v r done is may = subst (λ x. OnOk x ((w : Want) × MayEnd v n w)) is may
+
+-- behind steps of a job however it ends
+pub ends_then : {L D C : Type 0} (n : ℕ) (w : Want) (a b c : EngineView L D C) (r : Result (Unit {0}) MaintNo) → KeepsAsks n a.upkeep b.upkeep → EndsAs n w b c r → EndsAs n w a c r
+ends_then n w a b c (Ok done) asks h = (ended_then n a b c w asks h.0, h.1)
+ends_then n w a b c (Err no.Memory) asks h = h
+ends_then n w a b c (Err no.Stopped) asks h = h
+
+-- what is so for each want
+pub all_ok : (r : Result (Unit {0}) MaintNo) (A B : Want → Type 0) → ((w : Want) → A w → OnOk r (B w)) → OnOk r ((w : Want) → A w → B w)
+all_ok (Ok done) A B f = f
+all_ok (Err e) A B f = tt
+
+-- a job that failed
+pub ends_failed : {L D C : Type 0} (n : ℕ) (w : Want) (a b : EngineView L D C) (e : MaintNo) → HasNoDevice n b → (e ≡ no.Stopped → b.tablet.core.stopped ≡ true) → EndsAs n w a b (Err e)
+ends_failed n w a b no.Memory home stops = home
+ends_failed n w a b no.Stopped home stops = (stops refl, home)

@@ -9,7 +9,7 @@ use Rattle.kt_history.specs.declared.event.Event.TheVariants as event
 use Rattle.kt_records.specs.declared.entry.Entry.{Entry}
 use Rattle.kt_pick.specs.declared.rules.Want.{Want}
 use Rattle.kt_engine.specs.Engines.{EngineView, TellsStop}
-use Rattle.kt_engine.specs.Visits.{PartView, part_in, out_of, session_of, IsVisit}
+use Rattle.kt_engine.specs.Visits.{PartView, part_in, out_of, lent_of, session_of, IsVisit}
 use Rattle.kt_engine.specs.Calls.{SeesOthers, HasNoDevice, StandsStill}
 use Rattle.kt_engine.specs.Jobs.{UpkeepView, Last, HasUpkeep, upkeep_at, finished, nothing, more, without_want}
 use Rattle.kt_engine.specs.Rounds.{round_of}
@@ -23,19 +23,27 @@ use Rattle.kt_maint.specs.declared.tries.Turn.TheVariants as turn
 use Rattle.kt_maint.specs.Runs.{is_pass, HasNoDevice as PassHasNone, AddsStop, StandsAs, RunsAs}
 use Rattle.kt_maint.specs.Done.{HasDoneJob}
 use Rattle.kt_maint.specs.Calls.{has_stop, want_of, HasAsked, SameUpkeep, AfterTurn, AfterCall, HasBegunRound}
-use Rattle.kt_maint.proofs.Readying.{none_has}
 use Rattle.kt_maint.proofs.Stages.{some_is}
 use Rattle.kt_maint.proofs.Visiting.{stands_same}
 
 -- ---- a device that a pass has out
 
-out_none : (holder : Option ℕ) (out : List Entry) (n : ℕ) → out_of holder out n ≡ None → is_pass holder n ≡ false
+pub out_none : (holder : Option ℕ) (out : List Entry) (n : ℕ) → out_of holder out n ≡ None → is_pass holder n ≡ false
 out_none None out n e = refl
 out_none (Some by) out n e = elim (by == n) as (λ b. cond b (Some out) None ≡ None → b ≡ false) [ true ↦ λ h. absurd cc | false ↦ λ h. refl ] e
 
-none_out : (holder : Option ℕ) (out : List Entry) (n : ℕ) → is_pass holder n ≡ false → out_of holder out n ≡ None
+pub none_out : (holder : Option ℕ) (out : List Entry) (n : ℕ) → is_pass holder n ≡ false → out_of holder out n ≡ None
 none_out None out n e = refl
 none_out (Some by) out n e = ap (λ (b : Bool). cond b (Some out) None) e
+
+-- the store, as it went out to this pass or to none
+lent_none : {J : Type 0} (holder : Option ℕ) (known : J) (n : ℕ) → lent_of holder known n ≡ None → is_pass holder n ≡ false
+lent_none None known n e = refl
+lent_none (Some by) known n e = elim (by == n) as (λ b. cond b (Some known) None ≡ None → b ≡ false) [ true ↦ λ h. absurd cc | false ↦ λ h. refl ] e
+
+pub none_lent : {J : Type 0} (holder : Option ℕ) (known : J) (n : ℕ) → is_pass holder n ≡ false → lent_of holder known n ≡ None
+none_lent None known n e = refl
+none_lent (Some by) known n e = ap (λ (b : Bool). cond b (Some known) None) e
 
 -- ---- the `stop` line
 
@@ -69,11 +77,8 @@ module _ {L D C : Type 0} where
     its_part : part_in x n ≡ home.part
     its_part = part_is told home.part x n home.is is
 
-    store_home : x.store.holder ≡ None
-    store_home = ap (λ (p : PartView L D C). p.root.turn) its_part ∙ home.store
-
     pub pass_home : PassHasNone n x
-    pass_home = record { log = out_none x.log.holder x.log.out n (ap (λ (p : PartView L D C). p.pass.out) its_part ∙ home.log); store = none_has x.store.holder n store_home }
+    pass_home = record { log = out_none x.log.holder x.log.out n (ap (λ (p : PartView L D C). p.pass.out) its_part ∙ home.log); store = lent_none x.store.holder x.store n (ap (λ (p : PartView L D C). p.turn) its_part ∙ home.store) }
 
     -- ---- and after it
 
@@ -81,11 +86,8 @@ module _ {L D C : Type 0} where
       pub stands_still : StandsAs n x y → StandsStill told told'
       stands_still s = record { was = part_in x n; was_is = is; part = part_in y n; is = is'; session = s.session; place = s.place; root = root_stays n x y visit }
 
-      turn_home : y.store.holder ≡ None
-      turn_home = ap (λ r. r.turn) (root_stays n x y visit) ∙ store_home
-
       pub no_device_told : PassHasNone n y → HasNoDevice told'
-      no_device_told h = record { part = part_in y n; is = is'; log = none_out y.log.holder y.log.out n h.log; store = turn_home }
+      no_device_told h = record { part = part_in y n; is = is'; log = none_out y.log.holder y.log.out n h.log; store = none_lent y.store.holder y.store n h.store }
 
       pub after_turn : (w : Want) (t : Turn) (seen : List Event) → TellsStop y.tablet.core → seen ≡ y.tablet.core.trail → RunsAs n w x y t → AfterTurn w told told' seen t
       after_turn w turn.Done seen tells sees r = (

@@ -14,3 +14,9 @@ pub mod Begun
 pub mod Merged
 pub mod Written
 pub mod Calling
+pub mod RowsetsMore
+pub mod LateLists
+pub mod LateWritten
+pub mod GoingOut
+pub mod Returns
+pub mod Between

@@ -34,7 +34,7 @@ use Rattle.kt_engine.specs.JobSteps.{IsMerge, HasInput, TellAll, TellPassing, Ho
 use Rattle.kt_engine.specs.declared.upkeep.Stage.{Stage}
 use Rattle.kt_engine.specs.declared.upkeep.Stage.TheVariants as stage
 use Rattle.kt_engine.specs.Visits.{Root, root_of}
-use Rattle.kt_maint.specs.Done.{FoundBy, AreMerged, GivesMerged, GivesFor}
+use Rattle.kt_maint.specs.Done.{FoundBy, AreMerged, EndsWith, GivesMerged, GivesFor}
 use Rattle.kt_maint.specs.Runs.{HoldsMerged, JobHas}
 
 -- ---- the outputs
@@ -43,11 +43,11 @@ of_way : (way : Way) (rows : ℕ) (files : List FileHeld) → AreFilesOver way r
 of_way way rows [] are = tt
 of_way way rows (f ∷ files) are = (record { way_is = are.0.0; fits = are.0.1 }, of_way way rows files are.1)
 
-whole : (columns : List ColumnShape) (outputs : List RowSetData) → AllByRecursion (IsOutput columns) outputs → AreWhole outputs
+pub whole : (columns : List ColumnShape) (outputs : List RowSetData) → AllByRecursion (IsOutput columns) outputs → AreWhole outputs
 whole columns [] are = tt
 whole columns (d ∷ outputs) are = (record { undo = of_way _ _ d.undo are.0.undo.1; redo = of_way _ _ d.redo are.0.redo.1 }, whole columns outputs are.1)
 
-written_is : (q : List ℕ) (outputs : List RowSetData) → hists_written q outputs ≡ map (hist_in_files q) (map files_in outputs)
+pub written_is : (q : List ℕ) (outputs : List RowSetData) → hists_written q outputs ≡ map (hist_in_files q) (map files_in outputs)
 written_is q [] = refl
 written_is q (d ∷ outputs) = ap (λ (l : List Hist). hist_in_files q (files_in d) ∷ l) (written_is q outputs)
 
@@ -137,7 +137,7 @@ module _ {L D C : Type 0} (a b : EngineView L D C) (job : JobView) (inputs : Inp
   }
 
 -- the same of a job that was handed out the same
-pub merged_same : (found other : Past → Type 0) → ((first : Past) → other first → found first) → (was job : JobView) → job.inputs ≡ was.inputs → job.bound ≡ was.bound → job.mark ≡ was.mark → (outputs : List RowSetData) → AreMerged found was outputs → AreMerged other job outputs
+abbrev pub merged_same : (found other : Past → Type 0) → ((first : Past) → other first → found first) → (was job : JobView) → job.inputs ≡ was.inputs → job.bound ≡ was.bound → job.mark ≡ was.mark → (outputs : List RowSetData) → AreMerged found was outputs → AreMerged other job outputs
 merged_same found other back was job inputs bound mark outputs m = record {
   inputs = m.inputs;
   read = inputs ∙ m.read;
@@ -154,16 +154,34 @@ taken_is v job (want.FlushDeltas r) never = absurd never
 taken_is v job (want.Minor r) never = absurd never
 taken_is v job (want.Major r) never = absurd never
 
--- the outputs of a job that are written are what merging makes
+-- what came meanwhile is told of no more pasts
+pub ends_as : (found other : Past → Type 0) → ((first : Past) → other first → found first) → (w : Want) (bound : ℕ) (inputs : Inputs) (out done : List RowSetData) → EndsWith found w bound inputs out done → EndsWith other w bound inputs out done
+ends_as found other back want.Flush bound inputs out done e = e
+ends_as found other back (want.Compact taken) bound inputs out done e = record {
+  now = e.now;
+  later = λ first is. e.later first (back first is);
+  in_memory = λ first is. e.in_memory first (back first is);
+  late = e.late;
+  tells = e.tells;
+  adds = e.adds;
+  again = e.again;
+}
+ends_as found other back (want.FlushDeltas r) bound inputs out done e = e
+ends_as found other back (want.Minor r) bound inputs out done e = e
+ends_as found other back (want.Major r) bound inputs out done e = e
+
+-- the outputs of a flush that are written are what merging makes
 pub gives_merged : {L D C : Type 0} (n : ℕ) (e1 e3 : EngineView L D C) (was : JobView) (merged out : List RowSetData) (first : ℕ) → root_of e3 ≡ root_of e1 → AreMerged (IsFound e1) was merged → AreWritten first merged out
-    → (has : JobHas e3 n stage.Written out) → has.at.job.inputs ≡ was.inputs → has.at.job.bound ≡ was.bound → has.at.job.mark ≡ was.mark → GivesMerged (IsFound e3) has.at.job
-gives_merged {L} {D} {C} n e1 e3 was merged out first root made written has inputs bound mark = record {
+    → (has : JobHas e3 n stage.Written out) → has.at.job.want ≡ want.Flush → has.at.job.inputs ≡ was.inputs → has.at.job.bound ≡ was.bound → has.at.job.mark ≡ was.mark → GivesMerged (IsFound e3) has.at.job
+gives_merged {L} {D} {C} n e1 e3 was merged out first root made written has flush inputs bound mark = record {
   taken = taken_is e3 has.at.job has.at.job.want has.at.takes.takes;
   made = merged;
   merged = merged_same (IsFound e1) (IsFound e3) (λ past. subst (λ (r : Root L D C). FoundBy r past) root) was has.at.job inputs bound mark merged made;
   first = first;
   out = out;
   written = written;
+  done = out;
+  ends = subst (λ (w : Want). EndsWith (IsFound e3) w has.at.job.bound made.inputs out out) (sym flush) refl;
   from = has.from;
   metas = has.metas;
   held = has.held;
@@ -178,6 +196,8 @@ gives_then {L} {D} {C} c d job s number root g = record {
   first = g.first;
   out = g.out;
   written = g.written;
+  done = g.done;
+  ends = ends_as (IsFound c) (IsFound d) (λ past. subst (λ (r : Root L D C). FoundBy r past) root) job.want job.bound g.merged.inputs g.out g.done g.ends;
   from = g.from;
   metas = g.metas;
   held = g.held;

@@ -1,12 +1,18 @@
 -- A turn of the store that wrote files of new numbers.
-use Rattle.std.proofs.Common.{◌≡◌, ◌≤◌, ◌<◌, ◌⊎◌, ◌&&◌, ℕ, Bool, Some, inl, inr, refl, sym, ap, ◌∙◌, arith}
-use Rattle.std.specs.Prelude.{Ok, nat_lt}
+use Rattle.std.proofs.Common.{◌≡◌, ◌≤◌, ◌<◌, ◌⊎◌, ◌&&◌, ◌+◌, ◌^◌, ℕ, Bool, Some, inl, inr, refl, sym, ap, ◌∙◌, arith}
+use Rattle.std.specs.Prelude.{Ok, max, nat_lt}
+use Rattle.std.proofs.Math.Nat.{le-max_right}
 use Rattle.std.proofs.lemmas.Bool.{cases_lt, le-leb, ltb-false}
 use Rattle.kt_disk.specs.Disk.{Files, bytes_of}
 use Rattle.kt_super.specs.declared.meta.Meta.{Meta}
 use Rattle.kt_super.specs.Slots.{of_both, slot_at, super_of, IsSlot, AreStable}
 use Rattle.kt_outputs.specs.Outputs.{HasLeft}
 use Rattle.kt_storeside.specs.Turns.{IsLeft, IsTurn, HasOneOf}
+use Rattle.kt_engine.specs.Near.{most_files}
+
+-- not too many file numbers are given
+pub files_near : (given first next later most : ℕ) → given < first + 2 ^ 44 → next ≡ given → most ≤ next + 2 ^ 34 → later ≤ max next most → later ≤ max given (first + most_files)
+files_near given first next later most low is few up = let right = le-max_right given (first + most_files) in omega (arith, low, is, few, up, right)
 
 same_slots : (f g : Files) → g 1 ≡ f 1 → g 2 ≡ f 2 → super_of g ≡ super_of f
 same_slots f g one two = λ k. of_both (slot_at 1 (bytes_of (one k))) (slot_at 2 (bytes_of (two k)))

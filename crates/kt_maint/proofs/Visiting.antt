@@ -1,5 +1,5 @@
 -- What a visit does, step by step.
-use Rattle.std.proofs.Common.{◌≡◌, ℕ, List, Some, None, inl, inr, refl, sym, ap, subst, ◌∙◌}
+use Rattle.std.proofs.Common.{◌≡◌, ℕ, true, false, List, Some, None, inl, inr, refl, sym, ap, subst, ◌∙◌}
 use Rattle.std.specs.Prelude.{IsTrue}
 use Rattle.kt_history.specs.declared.event.Event.{Event}
 use Rattle.kt_history.specs.declared.event.Event.TheVariants as event
@@ -25,6 +25,10 @@ asks_then n a b c first second = record {
   begun = second.begun ∙ first.begun;
 }
 
+-- no pass has the store out before and behind
+turn_same : {D : Type 0} (old new : StoreView D) → old.holder ≡ None → new.holder ≡ None → (k : ℕ) → lent_of new.holder new k ≡ lent_of old.holder old k
+turn_same old new was is k = ap (λ h. lent_of h new k) is ∙ sym (ap (λ h. lent_of h old k) was)
+
 module _ {L D C : Type 0} (n : ℕ) where
   -- steps of which the first adds no line are one visit
   pub visits_then : (a b c : EngineView L D C) → IsVisit n a b → b.tablet.core.trail ≡ a.tablet.core.trail → IsVisit n b c → IsVisit n a c
@@ -39,6 +43,20 @@ module _ {L D C : Type 0} (n : ℕ) where
 
   pub stands_halted : (a b : EngineView L D C) → b.tablet ≡ record a.tablet { core = halted a.tablet.core } → StandsAs n a b
   stands_halted a b e = record { line = inr (ap (λ (t : View C). t.core.trail) e); session = ap (λ (t : View C). part t.core n) e; place = ap (λ (t : View C). place_at n t.places) e }
+
+  -- whether it had stopped before or not
+  pub stands_either : (a b : EngineView L D C) → (a.tablet.core.stopped ≡ false → b.tablet ≡ record a.tablet { core = halted a.tablet.core }) → (a.tablet.core.stopped ≡ true → b.tablet ≡ a.tablet) → StandsAs n a b
+  stands_either a b core once = elim a.tablet.core.stopped as (λ s. a.tablet.core.stopped ≡ s → StandsAs n a b) [ true ↦ λ e. stands_same a b (once e) | false ↦ λ e. stands_halted a b (core e) ] refl
+
+  -- a step, and one without a line behind it
+  pub visits_on : (a b c : EngineView L D C) → IsVisit n a b → c.tablet.core.trail ≡ b.tablet.core.trail → IsVisit n b c → IsVisit n a c
+  visits_on a b c first same second = record {
+    line = subst (λ (t : List Event). Adds session_of n a.tablet.core.trail t) (sym same) first.line;
+    parts = λ k ne. second.parts k ne ∙ first.parts k ne;
+  }
+
+  pub stands_behind : (a b c : EngineView L D C) → StandsAs n a b → c.tablet.core.trail ≡ b.tablet.core.trail → StandsAs n b c → StandsAs n a c
+  stands_behind a b c first same second = record { line = subst (λ (t : List Event). AddsStop a.tablet.core.trail t) (sym same) first.line; session = second.session ∙ first.session; place = second.place ∙ first.place }
 
   -- a step without a line, and what comes behind it
   pub stands_then : (a b c : EngineView L D C) → b.tablet.core.trail ≡ a.tablet.core.trail → StandsAs n a b → StandsAs n b c → StandsAs n a c
@@ -56,27 +74,29 @@ module _ {L D C : Type 0} (n : ℕ) where
     asks = asks_then n a.upkeep b.upkeep c.upkeep first.asks second.asks;
   }
 
-  -- the store and this pass's maintenance have changed, and who has it out has not
-  side_visit : (b : EngineView L D C) (s : StoreView D) (u : UpkeepsView) → s.holder ≡ b.store.holder → s.meta.schema ≡ b.store.meta.schema → ((k : ℕ) → (k ≡ n → ⊥) → upkeep_at k u.passes ≡ upkeep_at k b.upkeep.passes)
+  -- the store and this pass's maintenance have changed, and nobody has it out
+  side_visit : (b : EngineView L D C) (s : StoreView D) (u : UpkeepsView) → b.store.holder ≡ None → s.holder ≡ None → s.meta.schema ≡ b.store.meta.schema → ((k : ℕ) → (k ≡ n → ⊥) → upkeep_at k u.passes ≡ upkeep_at k b.upkeep.passes)
       → IsVisit n b (record b { store = s; upkeep = u })
-  side_visit b s u holder schema others = record {
+  side_visit b s u was home schema others = record {
     line = inl refl;
     parts = λ k ne i. record {
       pass = record { session = part b.tablet.core k; place = place_at k b.tablet.places; out = out_of b.log.holder b.log.out k; runs = runs k b.running; upkeep = others k ne i };
       lent = lent_of b.log.holder b.log.known k;
-      root = record (root_of b) { columns = schema i; turn = holder i };
+      turn = turn_same b.store s was home k i;
+      root = record (root_of b) { columns = schema i };
     };
   }
 
   -- and the tablet has stopped
-  broken_visit : (b : EngineView L D C) (s : StoreView D) (u : UpkeepsView) → s.holder ≡ b.store.holder → s.meta.schema ≡ b.store.meta.schema → ((k : ℕ) → (k ≡ n → ⊥) → upkeep_at k u.passes ≡ upkeep_at k b.upkeep.passes)
+  broken_visit : (b : EngineView L D C) (s : StoreView D) (u : UpkeepsView) → b.store.holder ≡ None → s.holder ≡ None → s.meta.schema ≡ b.store.meta.schema → ((k : ℕ) → (k ≡ n → ⊥) → upkeep_at k u.passes ≡ upkeep_at k b.upkeep.passes)
       → IsVisit n b (record b { tablet = record b.tablet { core = halted b.tablet.core }; store = s; upkeep = u })
-  broken_visit b s u holder schema others = record {
+  broken_visit b s u was home schema others = record {
     line = inr (event.Stop, refl, inr refl);
     parts = λ k ne i. record {
       pass = record { session = part b.tablet.core k; place = place_at k b.tablet.places; out = out_of b.log.holder b.log.out k; runs = runs k b.running; upkeep = others k ne i };
       lent = lent_of b.log.holder b.log.known k;
-      root = record (root_of b) { columns = schema i; turn = holder i };
+      turn = turn_same b.store s was home k i;
+      root = record (root_of b) { columns = schema i };
     };
   }
 
@@ -89,13 +109,13 @@ module _ {L D C : Type 0} (n : ℕ) where
     pub turned_visit : HasTurned out new → ((k : ℕ) → (k ≡ n → ⊥) → upkeep_at k new.upkeep.passes ≡ upkeep_at k b.upkeep.passes) → IsVisit n b new
     turned_visit t others =
         let all : new ≡ record b { store = new.store; upkeep = new.upkeep } = t.beside ∙ ap (λ (v : EngineView L D C). record v { store = new.store; upkeep = new.upkeep }) is in
-        subst (IsVisit n b) (sym all) (side_visit b new.store new.upkeep (t.home ∙ sym home) (t.columns ∙ ap (λ (v : EngineView L D C). v.store.meta.schema) is) others)
+        subst (IsVisit n b) (sym all) (side_visit b new.store new.upkeep home t.home (t.columns ∙ ap (λ (v : EngineView L D C). v.store.meta.schema) is) others)
 
     pub broken_turn : HasBroken out new → ((k : ℕ) → (k ≡ n → ⊥) → upkeep_at k out.upkeep.passes ≡ upkeep_at k b.upkeep.passes) → IsVisit n b new
     broken_turn t others =
         let all : new ≡ record b { tablet = record b.tablet { core = halted b.tablet.core }; store = new.store; upkeep = out.upkeep } =
         t.beside ∙ ap (λ (v : EngineView L D C). record v { tablet = record v.tablet { core = halted v.tablet.core }; store = new.store; upkeep = out.upkeep }) is in
-        subst (IsVisit n b) (sym all) (broken_visit b new.store out.upkeep (t.home ∙ sym home) (t.columns ∙ ap (λ (v : EngineView L D C). v.store.meta.schema) is) others)
+        subst (IsVisit n b) (sym all) (broken_visit b new.store out.upkeep home t.home (t.columns ∙ ap (λ (v : EngineView L D C). v.store.meta.schema) is) others)
 
     pub to_write : lent.device ≡ b.store.known → lent.meta ≡ None → (lent.next_rowset ≡ b.store.next_rowset) × (lent.next_file ≡ b.store.next_file) → IsTrue b.store.whole → LentToWrite n out.store lent
     to_write device none numbers whole = record {
@@ -120,3 +140,19 @@ module _ {L D C : Type 0} (n : ℕ) where
     home = ap (λ (v : EngineView L D C). v.store.holder) is ∙ holder;
     columns = ap (λ (v : EngineView L D C). v.store.meta.schema) is ∙ ap (λ m. m.schema) meta;
   }
+
+-- it has stopped then
+pub stopped_either : {L D C : Type 0} (a b : EngineView L D C) → (a.tablet.core.stopped ≡ false → b.tablet ≡ record a.tablet { core = halted a.tablet.core }) → (a.tablet.core.stopped ≡ true → b.tablet ≡ a.tablet) → b.tablet.core.stopped ≡ true
+stopped_either a b core once = elim a.tablet.core.stopped as (λ s. a.tablet.core.stopped ≡ s → b.tablet.core.stopped ≡ true) [ true ↦ λ e. ap (λ t. t.core.stopped) (once e) ∙ e | false ↦ λ e. ap (λ t. t.core.stopped) (core e) ] refl
+
+-- nothing has changed
+pub quiet_same : {L D C : Type 0} (n : ℕ) (a b : EngineView L D C) → b ≡ a → IsVisit n a b → IsQuiet n a b
+quiet_same {L} {D} {C} n a b same visit = record {
+  visit = visit;
+  tablet = ap (λ (v : EngineView L D C). v.tablet) same;
+  log = ap (λ (v : EngineView L D C). v.log) same;
+  asks = asks_same n a.upkeep b.upkeep (ap (λ (v : EngineView L D C). v.upkeep) same);
+}
+
+pub beside_same : {L D C : Type 0} (a b : EngineView L D C) → b ≡ a → b ≡ record a { upkeep = b.upkeep }
+beside_same {L} {D} {C} a b same = same ∙ (λ k. record a { upkeep = sym (ap (λ (v : EngineView L D C). v.upkeep) same) k })

@@ -47,6 +47,7 @@ use Rattle.kt_engine.proofs.Filed.{own_names}
 use Rattle.kt_engine.proofs.Flushed.{bare_hists}
 use Rattle.kt_engine.proofs.Visiting.{root_stays}
 use Rattle.kt_pick.specs.declared.rules.Want.{Want}
+use Rattle.kt_pick.specs.declared.rules.Want.TheVariants as want
 use Rattle.kt_maint.specs.Done.{AreMerged}
 use Rattle.kt_maint.specs.Runs.{IsQuiet, IsReady, IsPublished, HasFiles, HoldsMerged, JobIsAt, JobHas, GoesOn, going_out}
 use Rattle.kt_maint.specs.JobRuns.{HasHandedIn, HasHandedOne, HandsIn, MergeIsWritten, MayEnd}
@@ -71,26 +72,26 @@ lacks_written r number (x ∷ outputs) [] low w = absurd w
 lacks_written r number (x ∷ outputs) (d ∷ out) low w =
     (subst (λ (n : ℕ). (r == n) ≡ false) (sym (ap (λ (f : DiskRowset). f.rowset) w.0)) (grind (arith, nat_tests)), lacks_written r (suc number) outputs out (omega arith) w.2)
 
-differ_written : (number : ℕ) (outputs out : List RowSetData) → AreWritten number outputs out → NumbersDiffer (map files_in out)
+pub differ_written : (number : ℕ) (outputs out : List RowSetData) → AreWritten number outputs out → NumbersDiffer (map files_in out)
 differ_written number [] [] w = tt
 differ_written number [] (d ∷ out) w = absurd w
 differ_written number (x ∷ outputs) [] w = absurd w
 differ_written number (x ∷ outputs) (d ∷ out) w =
     (lacks_written (files_in d).rowset (suc number) outputs out (let e = ap (λ (f : DiskRowset). f.rowset) w.0 in omega arith) w.2, differ_written (suc number) outputs out w.2)
 
-below_written : (number next last : ℕ) (outputs out : List RowSetData) → number + length outputs ≤ next → AreWritten number outputs out → RowsetsBelow (before next last) (map files_in out)
+pub below_written : (number next last : ℕ) (outputs out : List RowSetData) → number + length outputs ≤ next → AreWritten number outputs out → RowsetsBelow (before next last) (map files_in out)
 below_written number next last [] [] low w = tt
 below_written number next last [] (d ∷ out) low w = absurd w
 below_written number next last (x ∷ outputs) [] low w = absurd w
 below_written number next last (x ∷ outputs) (d ∷ out) low w =
     (let e = ap (λ (f : DiskRowset). f.rowset) w.0 in omega arith, below_written (suc number) next last outputs out (omega arith) w.2)
 
-no_dms : (out : List RowSetData) → AllByRecursion (λ (d : DiskRowset). d.last_dms ≡ 0) (map files_in out)
+pub no_dms : (out : List RowSetData) → AllByRecursion (λ (d : DiskRowset). d.last_dms ≡ 0) (map files_in out)
 no_dms [] = tt
 no_dms (d ∷ out) = (refl, no_dms out)
 
 -- they are named as they are held
-names_written : (out : List RowSetData) → AreNamed (map (meta_in 0) out) (map held_in out)
+pub names_written : (out : List RowSetData) → AreNamed (map (meta_in 0) out) (map held_in out)
 names_written [] = tt
 names_written (d ∷ out) = (own_names 0 d, names_written out)
 
@@ -101,13 +102,13 @@ fresh_written number (x ∷ outputs) [] w = absurd w
 fresh_written number (x ∷ outputs) (d ∷ out) w = (w.1, fresh_written (suc number) outputs out w.2)
 
 -- the last MemRowSet of a flush is the job's
-last_is : (taken : List ℕ) (last own : ℕ) → mems last ≡ takes_by taken own → last ≡ own
+pub last_is : (taken : List ℕ) (last own : ℕ) → mems last ≡ takes_by taken own → last ≡ own
 last_is [] last own e = (let same : mems last ≡ mems own = e in cc)
 last_is (r ∷ taken) last own e = absurd (let no : mems last ≡ rowsets (r ∷ taken) = e in cc)
 
 -- ---- the past that opening found
 
-content_back : {L D C : Type 0} (rules : Rules) (first : Past) (a c : EngineView L D C) → root_of c ≡ root_of a → IsContent rules c first → IsContent rules a first
+pub content_back : {L D C : Type 0} (rules : Rules) (first : Past) (a c : EngineView L D C) → root_of c ≡ root_of a → IsContent rules c first → IsContent rules a first
 content_back {L} {D} {C} rules first a c root is = record {
   closed = is.closed;
   opens = subst (λ (r : Root L D C). Opens r.opening r.mark r.opened first) root is.opens;
@@ -212,7 +213,7 @@ module _ {L D C : Type 0} (tells : Bool) (seen : D → Files) (now : D → ℕ) 
         }
 
   -- once it is published the job may finish
-  may_finish : (c d : EngineView L D C) (out : List RowSetData) (has : JobHas c n stage.Written out) → MayPublishJob tells seen now leaves c has.at.job → d.tablet ≡ c.tablet → d.upkeep.begun ≡ c.upkeep.begun → (p : IsPublished n has.at.job c d) → MayFinish d n (record has.at.job { stage = stage.Published; super = p.number })
+  pub may_finish : (c d : EngineView L D C) (out : List RowSetData) (has : JobHas c n stage.Written out) → MayPublishJob tells seen now leaves c has.at.job → d.tablet ≡ c.tablet → d.upkeep.begun ≡ c.upkeep.begun → (p : IsPublished n has.at.job c d) → MayFinish d n (record has.at.job { stage = stage.Published; super = p.number })
   may_finish c d out has may tablet begun p =
       let job = has.at.job in
       let long : length job.held ≡ length out = ap length has.held ∙ length-map out held_in in
@@ -246,17 +247,18 @@ module _ {L D C : Type 0} (tells : Bool) (seen : D → Files) (now : D → ℕ) 
   pub merge_written : (faults : D → ℕ) (e0 e1 e2 e3 : EngineView L D C) (merged out : List RowSetData) → written_rowsets_are_the_same → written_rowsets_pass → named_rowsets_tell → outputs_come_behind → outputs_stand → some_may_be_named → some_stand
       → IsSide tells seen now leaves faults e0.store → IsReady e0 → IsQuiet n e0 e1 → e1 ≡ record e0 { upkeep = e1.upkeep } → (at : JobIsAt e1 n stage.Read) → HoldsMerged tells e1 (takes_of at.job) merged → AreMerged (IsFound e1) at.job merged → GoesOn n e0.upkeep e1.upkeep
       → IsQuiet n e1 e2 → e2.upkeep ≡ e1.upkeep → HasFiles tells seen now leaves e1.store e2.store merged out → e2.store.holder ≡ None → IsQuiet n e2 e3 → e3 ≡ record e2 { upkeep = e3.upkeep }
-      → ((j : JobView) → job_of n e2.upkeep ≡ Some j → HandsIn n j out e2 e3) → (j : JobView) → job_of n e0.upkeep ≡ Some j → MergeIsWritten tells seen now leaves e3 n j.want
-  merge_written faults e0 e1 e2 e3 merged out same pass told behind stand fewer still side ready q1 beside1 at holds made on q2 upkeep files home q3 beside3 hands j has =
+      → ((j : JobView) → job_of n e2.upkeep ≡ Some j → HandsIn n j out e2 e3) → (j : JobView) → job_of n e0.upkeep ≡ Some j → j.want ≡ want.Flush → MergeIsWritten tells seen now leaves e3 n want.Flush
+  merge_written faults e0 e1 e2 e3 merged out same pass told behind stand fewer still side ready q1 beside1 at holds made on q2 upkeep files home q3 beside3 hands j has flush =
+      let its = want_same n e0.upkeep e1.upkeep on j at.job has at.has ∙ flush in
       let at2 = read_then n e1 e2 at q2 upkeep files in
       let handed = by_merge (HasHandedIn n at.job out e2 e3) (λ r. HasHandedOne n at.job out e2 e3) at.job.want at.want (hands at.job at2.has) in
       let has3 = has_handed n e2 e3 at2 out handed (from_written at.job.first_rowset e1.store.next_rowset merged out at.given files.written) in
       record {
         outputs = out;
         has = has3;
-        want = want_same n e0.upkeep e1.upkeep on j at.job has at.has;
+        want = its;
         may = may_publish_then faults e0 e1 e2 e3 merged out same pass told behind stand fewer still (takes_of at.job) side ready q1 beside1 holds q2 files home q3 beside3 has3 refl;
-        gives = gives_merged n e1 e3 at.job merged out e1.store.next_rowset (root_stays n e2 e3 q3.visit ∙ root_stays n e1 e2 q2.visit) made files.written has3 refl refl refl;
+        gives = gives_merged n e1 e3 at.job merged out e1.store.next_rowset (root_stays n e2 e3 q3.visit ∙ root_stays n e1 e2 q2.visit) made files.written has3 its refl refl refl;
       }
 
   -- once its superblock is the published one it may end, and has given what its want asks for

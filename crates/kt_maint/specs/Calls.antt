@@ -1,16 +1,22 @@
 -- What a call for a job tells by the part of its pass.
-use Rattle.std.specs.Prelude.{◌≡◌, ◌^◌, ◌-◌, Bool, true, false, List, [], ◌∷◌, Option, Some, None, Result, Ok, Err}
+use Rattle.std.specs.Prelude.{◌≡◌, ◌^◌, ◌-◌, ℕ, Bool, true, false, List, [], ◌∷◌, Option, Some, None, Result, Ok, Err}
 use Rattle.kt_base.specs.declared.chore.Chore.{Chore}
+use Rattle.kt_disk.specs.Disk.{Files}
 use Rattle.kt_history.specs.declared.event.Event.{Event}
 use Rattle.kt_history.specs.declared.event.Event.TheVariants as event
 use Rattle.kt_pick.specs.declared.rules.Want.{Want}
 use Rattle.kt_pick.specs.declared.rules.Want.TheVariants as want
 use Rattle.kt_engine.specs.Visits.{PartView}
 use Rattle.kt_engine.specs.Calls.{HasNoDevice}
-use Rattle.kt_engine.specs.Jobs.{Last, none, nothing, begun, finished, abandoned, more, without_want}
+use Rattle.kt_engine.specs.Jobs.{JobView, Last, none, nothing, begun, finished, abandoned, asked, more, without_want}
 use Rattle.kt_engine.specs.declared.job.MaintNo.{MaintNo}
 use Rattle.kt_engine.specs.declared.job.MaintNo.TheVariants as no
-use Rattle.kt_maint.specs.Done.{HasDoneJob}
+use Rattle.kt_maint.specs.Done.{FoundBy, HasGiven, HasDoneJob}
+use Rattle.kt_maint.specs.Outside.{IsAway, HasCome, ended}
+use Rattle.kt_maint.specs.declared.jobs.Start.{Start}
+use Rattle.kt_maint.specs.declared.jobs.Start.TheVariants as start
+use Rattle.kt_maint.specs.declared.outside.Outside.{Outside}
+use Rattle.kt_maint.specs.declared.outside.Outcome.{Outcome}
 use Rattle.kt_maint.specs.declared.run.Ran.{Ran}
 use Rattle.kt_maint.specs.declared.run.Ran.TheVariants as ran
 use Rattle.kt_maint.specs.declared.tries.Turn.{Turn}
@@ -64,6 +70,56 @@ AfterTurn w before after seen turn.Nothing = HasAsked (nothing w) before after �
 AfterTurn w before after seen turn.Wait = SameUpkeep before after × HasNoDevice after
 AfterTurn w before after seen turn.Stopped = (has_stop seen ≡ true) × HasNoDevice after
 AfterTurn w before after seen turn.Memory = HasNoDevice after
+
+-- it asked once more, and its job for this want is outside
+pub record IsBetween {L D C : Type 0} (tells : Bool) (seen : D → Files) (n : ℕ) (w : Want) (out : Outside D) (before after : Option (PartView L D C)) : Type 0 where
+  pub was : PartView L D C
+  pub was_is : before ≡ Some was
+  pub part : PartView L D C
+  pub is : after ≡ Some part
+  pub away : IsAway tells seen n w out part
+  pub asks : part.pass.upkeep ≡ asked w away.job was.pass.upkeep
+
+-- a try of it in a visit, or the first of its two visits
+abbrev pub AfterStart : {L D C : Type 0} → Bool → (D → Files) → ℕ → Want → Option (PartView L D C) → Option (PartView L D C) → List Event → Start Turn D → Type 0
+AfterStart tells seen n w before after lines (start.Over t) = AfterTurn w before after lines t
+AfterStart tells seen n w before after lines (start.Out out) = IsBetween tells seen n w out before after
+
+-- its job is outside
+pub record HasAway {L D C : Type 0} (tells : Bool) (seen : D → Files) (n : ℕ) (out : Outside D) (told : Option (PartView L D C)) : Type 0 where
+  pub want : Want
+  pub part : PartView L D C
+  pub is : told ≡ Some part
+  pub away : IsAway tells seen n want out part
+
+-- what was written outside comes back to a pass
+pub record ComesTo {L D C : Type 0} (tells : Bool) (seen : D → Files) (now : D → ℕ) (leaves : D → ℕ → Files → Type 0) (faults : D → ℕ) (n : ℕ) (outcome : Outcome D) (told : Option (PartView L D C)) : Type 0 where
+  pub part : PartView L D C
+  pub is : told ≡ Some part
+  pub come : HasCome tells seen now leaves faults n outcome.bound outcome.most outcome.lent outcome.written part
+
+-- its job was outside, and is done
+pub record HasEndedJob {L D C : Type 0} (before after : Option (PartView L D C)) : Type 0 where
+  pub was : PartView L D C
+  pub was_is : before ≡ Some was
+  pub its : JobView
+  pub had : was.pass.upkeep.job ≡ Some its
+  pub part : PartView L D C
+  pub is : after ≡ Some part
+  pub job : JobView
+  pub upkeep : part.pass.upkeep ≡ ended its.want job was.pass.upkeep
+  pub given : HasGiven (FoundBy part.root) its.want job
+
+-- the last visit of a job that was outside
+abbrev pub AfterEnd : {L D C : Type 0} → Option (PartView L D C) → Option (PartView L D C) → List Event → Result (Unit {0}) MaintNo → Type 0
+AfterEnd before after seen (Ok done) = HasEndedJob before after × HasNoDevice after
+AfterEnd before after seen (Err no.Stopped) = (has_stop seen ≡ true) × HasNoDevice after
+AfterEnd before after seen (Err no.Memory) = HasNoDevice after
+
+-- how a call ends whose job was outside
+abbrev pub ran_of : Result (Unit {0}) MaintNo → Result Ran MaintNo
+ran_of (Ok done) = Ok ran.Done
+ran_of (Err e) = Err e
 
 -- a round has begun, and these are its wants
 pub record HasBegunRound {L D C : Type 0} (chore : Chore) (wants : List Want) (before after : Option (PartView L D C)) : Type 0 where

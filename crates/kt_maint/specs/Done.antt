@@ -1,5 +1,6 @@
 -- What a job that is done was handed out, and what it gave.
 use Rattle.std.specs.Prelude.{◌≡◌, ◌≢◌, ℕ, List, map, Option, Some, None}
+use Rattle.std.specs.List.{AllByRecursion}
 use Rattle.std.specs.FinMap.Entries.{find}
 use Rattle.kt_history.specs.History.{Past}
 use Rattle.kt_history.specs.Rows.{key_cmp}
@@ -8,8 +9,11 @@ use Rattle.kt_diskrowset.specs.declared.data.RowSetData.{RowSetData}
 use Rattle.kt_diskrowset.specs.declared.inputs.Inputs.{Inputs}
 use Rattle.kt_content.specs.Flushes.{AreFrom}
 use Rattle.kt_diskrowset.specs.Data.{files_in, held_in, store_in}
-use Rattle.kt_merge.specs.Merge.{hists_upto, hists_written, HaveEach, IsOfInput}
+use Rattle.kt_joblaws.specs.Late.{AllHaveLater, hists_now}
+use Rattle.kt_merge.specs.Late.{AllTellLate, HasNoneAbove}
+use Rattle.kt_merge.specs.Merge.{hists_of, hists_upto, hists_written, HaveEach, IsOfInput}
 use Rattle.kt_merge.specs.Told.{told_by_all, AreOutputs}
+use Rattle.kt_outputs.specs.Again.{AreAgain, AllAddLate}
 use Rattle.kt_outputs.specs.Outputs.{meta_in, AreWritten}
 use Rattle.kt_pick.specs.declared.rules.Want.{Want}
 use Rattle.kt_pick.specs.declared.rules.Want.TheVariants as want
@@ -32,7 +36,23 @@ pub record AreMerged (found : Past → Type 0) (job : JobView) (made : List RowS
   pub rows : (first : Past) → found first → HaveEach (record { mark = job.mark; bound = job.bound }) inputs (told_by_all made)
   pub alike : (first : Past) → found first → (q : List ℕ) → AreAlike job.mark (hists_upto job.bound q inputs) (hists_written q made)
 
--- A flush or a compaction has taken what it is for, and its outputs are what merging makes, under numbers that were given since it began
+-- What came to the disk rowsets of a compaction while it wrote. Where opening found a past they have behind what was read changes above its bound, and all of these in memory. Each output has those of its
+-- own rows too, as REDO files more, and these were written
+pub record HasPutLate (found : Past → Type 0) (bound : ℕ) (inputs : Inputs) (out done : List RowSetData) : Type 0 where
+  pub now : List RowSetData
+  pub later : (first : Past) → found first → (q : List ℕ) → AllHaveLater bound (hists_of q inputs) (hists_now q now)
+  pub in_memory : (first : Past) → found first → AllByRecursion (HasNoneAbove bound) now
+  pub late : List RowSetData
+  pub tells : AllTellLate bound now out late
+  pub adds : AllAddLate out late
+  pub again : AreAgain late done
+
+-- what a job that merges gives in the end, of what it wrote first: a compaction with what came meanwhile, and a flush just that
+abbrev pub EndsWith : (Past → Type 0) → Want → ℕ → Inputs → List RowSetData → List RowSetData → Type 0
+EndsWith found (want.Compact taken) bound inputs out done = HasPutLate found bound inputs out done
+EndsWith found _ bound inputs out done = done ≡ out
+
+-- A flush or a compaction has taken what it is for. What it wrote first is what merging makes, under numbers that were given since it began, and it gives that with what came meanwhile
 pub record GivesMerged (found : Past → Type 0) (job : JobView) : Type 0 where
   pub taken : job.taken ≡ taken_by job.want
   pub made : List RowSetData
@@ -40,9 +60,11 @@ pub record GivesMerged (found : Past → Type 0) (job : JobView) : Type 0 where
   pub first : ℕ
   pub out : List RowSetData
   pub written : AreWritten first made out
-  pub from : AreFrom job.first_rowset (map files_in out)
-  pub metas : job.metas ≡ map (meta_in 0) out
-  pub held : job.held ≡ map held_in out
+  pub done : List RowSetData
+  pub ends : EndsWith found job.want job.bound merged.inputs out done
+  pub from : AreFrom job.first_rowset (map files_in done)
+  pub metas : job.metas ≡ map (meta_in 0) done
+  pub held : job.held ≡ map held_in done
 
 -- A job on the files of one disk rowset has written it so that it tells what it told, in the shape of what it is for, with the files that this leaves
 pub record GivesRewritten (job : JobView) : Type 0 where

@@ -1,20 +1,32 @@
 -- The job of a pass, for each want, from its beginning to its published superblock, in one visit.
-use Rattle.std.specs.Prelude.{◌≡◌, ◌≤◌, ◌<◌, ◌+◌, ◌^◌, ℕ, Bool, true, List, [], ◌∷◌, length, map, Some}
+use Rattle.std.specs.Prelude.{◌≡◌, ◌≤◌, ◌<◌, ◌+◌, ◌++◌, ◌^◌, ℕ, Bool, true, IsTrue, List, [], ◌∷◌, length, map, Some}
+use Rattle.std.specs.List.{AllByRecursion}
 use Rattle.kt_disk.specs.Disk.{Files}
+use Rattle.kt_history.specs.History.{Past}
+use Rattle.kt_content.specs.Content.{NumbersDiffer}
+use Rattle.kt_content.specs.Flushes.{AreFrom, before}
+use Rattle.kt_content.specs.RunEvents.{RowsetsBelow}
+use Rattle.kt_content.specs.Rules.{Rules, RowsetsPass}
+use Rattle.kt_super.specs.Rowsets.{AreRowsets}
+use Rattle.kt_files.specs.Named.{HasNamed}
+use Rattle.kt_files.specs.Reading.{HoldAll}
 use Rattle.kt_rowfiles.specs.Fitting.{undos_fit}
 use Rattle.kt_diskrowset.specs.declared.data.RowSetData.{RowSetData}
 use Rattle.kt_diskrowset.specs.Data.{files_in, held_in}
 use Rattle.kt_diskrowset.specs.Rows.{UndosLeadBack}
-use Rattle.kt_outputs.specs.Outputs.{meta_in}
+use Rattle.kt_outputs.specs.Outputs.{meta_in, AreWritten}
 use Rattle.kt_pick.specs.declared.rules.Want.{Want}
-use Rattle.kt_engine.specs.Engines.{EngineView, IsFound}
+use Rattle.kt_pick.specs.declared.rules.Want.TheVariants as want
+use Rattle.kt_engine.specs.Engines.{EngineView, IsFound, IsContent}
+use Rattle.kt_engine.specs.Logged.{PlanPasses}
+use Rattle.kt_engine.specs.JobMeta.{metas_left}
 use Rattle.kt_engine.specs.declared.upkeep.Stage.TheVariants as stage
-use Rattle.kt_engine.specs.Jobs.{JobView, job_of}
-use Rattle.kt_engine.specs.JobSteps.{AtNewStage, MayPublishJob}
+use Rattle.kt_engine.specs.Jobs.{JobView, job_of, upkeep_at, asked, taken_by, takes_of}
+use Rattle.kt_engine.specs.JobSteps.{HoldInputs, AtNewStage, MayPublishJob}
 use Rattle.kt_engine.specs.DeltaJobs.{MayPublishDeltas}
 use Rattle.kt_engine.specs.JobCalls.{ByWant, MayEndBy}
-use Rattle.kt_maint.specs.Done.{GivesMerged, GivesRewritten, HasGiven}
-use Rattle.kt_maint.specs.Runs.{JobIsAt, JobHas}
+use Rattle.kt_maint.specs.Done.{AreMerged, EndsWith, GivesMerged, GivesRewritten, HasGiven}
+use Rattle.kt_maint.specs.Runs.{IsReady, JobIsAt, JobHas}
 use Rattle.kt_maint.specs.DeltaRuns.{DeltasAt}
 
 -- ---- its outputs are handed in
@@ -44,6 +56,44 @@ pub record MergeBegins {L D C : Type 0} (v : EngineView L D C) (n : ℕ) (w : Wa
 
 abbrev pub BeginsBy : {L D C : Type 0} → EngineView L D C → ℕ → Want → Type 0
 BeginsBy v n w = ByWant w (MergeBegins v n w) (λ r. DeltasAt v n w stage.Begun)
+
+-- its pass has asked once more, and it is begun without a line, while nothing is under way
+pub record HasBegunNow {L D C : Type 0} (n : ℕ) (w : Want) (old new : EngineView L D C) : Type 0 where
+  pub job : JobView
+  pub own : upkeep_at n new.upkeep.passes ≡ asked w job (upkeep_at n old.upkeep.passes)
+  pub begins : BeginsBy new n w
+  pub ready : IsReady new
+  pub line : new.tablet.core.trail ≡ old.tablet.core.trail
+
+-- a compaction goes outside the lock, and the others stay in one visit
+abbrev pub StaysInside : Want → Type 0
+StaysInside (want.Compact taken) = ⊥
+StaysInside _ = Unit {0}
+
+-- ---- its outputs are written, and may be handed in
+
+-- They hold what the job takes, pass the rules of the table, and may be named behind the disk rowsets that it leaves
+pub record MayHandIn {L D C : Type 0} (tells : Bool) (seen : D → Files) (now : D → ℕ) (leaves : D → ℕ → Files → Type 0) (v : EngineView L D C) (n : ℕ) (w : Want) (outputs : List RowSetData) : Type 0 where
+  pub at : JobIsAt v n stage.Read
+  pub want : at.job.want ≡ w
+  pub fresh : AllByRecursion (λ (d : RowSetData). d.fresh ≡ []) outputs
+  pub from : AreFrom at.job.first_rowset (map files_in outputs)
+  pub differ : NumbersDiffer (map files_in outputs)
+  pub given : RowsetsBelow (before v.store.next_rowset at.job.last_mem) (map files_in outputs)
+  pub small : v.store.next_rowset < 2 ^ 64
+  pub hold : IsTrue tells → HoldAll (seen v.store.known) (map (meta_in 0) outputs) (map held_in outputs)
+  pub holds : (first : Past) → IsFound v first → HoldInputs v.tablet (takes_of at.job) (map files_in outputs)
+  pub passes : IsTrue tells → (rules : Rules) (first : Past) → IsContent rules v first → PlanPasses rules v.tablet.core.work → RowsetsPass rules (map files_in outputs)
+  pub named : AreRowsets v.store.next_rowset v.store.next_file 0 [] (metas_left (takes_of at.job) v.store.meta.rowsets ++ map (meta_in 0) outputs)
+  pub stand : IsTrue tells → (image : Files) → leaves v.store.known (now v.store.known) image → HasNamed (metas_left (takes_of at.job) v.store.meta.rowsets) (seen v.store.known) image
+      → HasNamed (metas_left (takes_of at.job) v.store.meta.rowsets ++ map (meta_in 0) outputs) (seen v.store.known) image
+  pub taken : at.job.taken ≡ taken_by at.job.want
+  pub made : List RowSetData
+  pub merged : AreMerged (IsFound v) at.job made
+  pub first : ℕ
+  pub out : List RowSetData
+  pub written : AreWritten first made out
+  pub ends : EndsWith (IsFound v) at.job.want at.job.bound merged.inputs out outputs
 
 -- ---- its outputs are written and handed in: they are what its want asks for, and its superblock may go out
 

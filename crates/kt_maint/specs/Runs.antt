@@ -1,5 +1,5 @@
 -- What the steps of a job in one visit do to the engine.
-use Rattle.std.specs.Prelude.{◌≡◌, ◌≢◌, ◌≤◌, ◌<◌, ◌⊎◌, ◌+◌, ◌==◌, ◌^◌, ◌-◌, ℕ, true, false, Bool, IsTrue, List, [], ◌∷◌, ◌++◌, length, map, Option, Some, None}
+use Rattle.std.specs.Prelude.{◌≡◌, ◌≢◌, ◌≤◌, ◌<◌, ◌⊎◌, ◌+◌, ◌==◌, ◌^◌, ◌-◌, ℕ, is_some, true, false, Bool, IsTrue, List, [], ◌∷◌, ◌++◌, length, map, Option, Some, None}
 use Rattle.kt_disk.specs.Disk.{Files}
 use Rattle.kt_history.specs.History.{Past}
 use Rattle.kt_history.specs.declared.event.Event.{Event}
@@ -86,6 +86,18 @@ AppendsAs n old new ready.Yes = (new.log.queued ≡ []) × (new.log.out ≡ []) 
 AppendsAs n old new ready.Wait = ⊥
 AppendsAs n old new ready.Memory = (new.log.holder ≡ None) × (new.tablet ≡ old.tablet) × (new.store ≡ old.store) × (new.upkeep ≡ old.upkeep)
 AppendsAs n old new ready.Stopped = (new.tablet.core.stopped ≡ true) × (new.log.holder ≡ None) × (new.store ≡ old.store) × (new.upkeep ≡ old.upkeep)
+
+-- what waited for the log is durable, and the log is at home
+pub record IsSettled {L D C : Type 0} (v : EngineView L D C) : Type 0 where
+  pub goes : v.tablet.core.stopped ≡ false
+  pub settled : (v.log.queued ≡ []) × (v.log.out ≡ []) × (v.log.holder ≡ None)
+
+-- so, or why not: nothing but the log has changed, unless a fault has stopped the tablet
+abbrev pub SettlesAs : {L D C : Type 0} → ℕ → EngineView L D C → EngineView L D C → Ready → Type 0
+SettlesAs n old new ready.Yes = IsSettled new × (new.tablet ≡ old.tablet) × (new.store ≡ old.store) × (new.upkeep ≡ old.upkeep)
+SettlesAs n old new ready.Wait = (new ≡ old) × (old.tablet.core.stopped ≡ false) × (is_some old.log.holder ≡ true)
+SettlesAs n old new ready.Memory = (new.tablet ≡ old.tablet) × (new.store ≡ old.store) × (new.upkeep ≡ old.upkeep) × (is_pass new.log.holder n ≡ false)
+SettlesAs n old new ready.Stopped = (new.tablet.core.stopped ≡ true) × (new.store ≡ old.store) × (new.upkeep ≡ old.upkeep) × (is_pass new.log.holder n ≡ false)
 
 -- the job of a pass is at a stage, has what it took as it began, and none publishes; it may still be given up
 pub record JobIsAt {L D C : Type 0} (v : EngineView L D C) (n : ℕ) (s : Stage) : Type 0 where

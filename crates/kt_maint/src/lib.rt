@@ -2,16 +2,21 @@
 //!
 //! For the layer above: each `run_` call does one job for its want, or tells that there is nothing to do, and shows nothing of it: the tablet has the
 //! same rows at each time from its mark on. `run_chore` does all that a command asks for. A job is run in one visit of the lock, while nothing flies and no
-//! record waits for the log, and its device calls are made inside that visit. It stands on kt_engine for the events of a job, on kt_merge for what is
-//! written, and on kt_files and kt_storeside for the files and the superblock.
+//! record waits for the log, and its device calls are made inside that visit. A compaction takes two: in the first it reads its disk rowsets and takes the
+//! store with it; it merges and writes with the lock free; and in the second, while nothing flies, it puts what came meanwhile into its outputs and publishes.
+//! It stands on kt_engine for the events of a job, on kt_merge for what is written, and on kt_files and kt_storeside for the files and the superblock.
 #![tactic(auto)]
 
 pub mod chore;
 pub mod deltas;
+mod ending;
 mod handing;
 pub mod jobs;
+mod late;
+mod leaving;
 pub mod merging;
 mod numbers;
+pub mod outside;
 mod publishing;
 mod ready;
 mod rewriting;

@@ -1,4 +1,4 @@
-//! The outputs of a flush or a compaction: what it takes is merged and written.
+//! The outputs of a flush: what it takes is merged and written.
 ghost use Rattle.std.specs.Prelude.{◌≡◌, ◌≢◌, true, None, Some, OnOk, IfOk, IsErr, Err};
 ghost use Rattle.kt_engine.specs.Engines.{IsFound};
 ghost use Rattle.kt_engine.specs.Jobs.{JobView, job_of, takes_of};
@@ -6,7 +6,8 @@ ghost use Rattle.kt_engine.specs.Visits.{IsVisit};
 ghost use Rattle.kt_engine.specs.declared.upkeep.Stage.TheVariants as stage;
 ghost use Rattle.kt_maint.specs.Done.{AreMerged};
 ghost use Rattle.kt_maint.specs.Runs.{IsQuiet, IsReady, JobIsAt, GoesOn, HoldsMerged, MayAbandon, StandsAs};
-ghost use Rattle.kt_maint.specs.JobRuns.{MergeIsWritten};
+ghost use Rattle.kt_maint.specs.JobRuns.{MergeBegins, MergeIsWritten};
+ghost use Rattle.kt_pick.specs.declared.rules.Want.TheVariants as want;
 
 use crate::handing::hand_in;
 use crate::numbers::is_within;
@@ -50,19 +51,19 @@ fn merge<L: Disk, D: Disk + Drop, C: Clock>(
     }
 }
 
-/// The job of this pass that merges, which has begun, up to its outputs written and handed in.
-pub fn write_merged<L: Disk, D: Disk + Drop, C: Clock>(
+/// The flush of this pass, which has begun, up to its outputs written and handed in.
+pub fn write_flush<L: Disk, D: Disk + Drop, C: Clock>(
     alloc: Global,
     engine: &mut Engine<L, D, C>,
     by: u32,
 ) -> Result<(), MaintNo>
-    requires begun { JobIsAt engine.old by stage.Begun }
+    requires begun { MergeBegins engine.old by want.Flush }
     requires calm { IsReady engine.old }
     ensures visit { IsVisit by engine.old engine.new }
     ensures still { StandsAs by engine.old engine.new }
     ensures quiet { result ≢ Err MaintNo.Stopped → IsQuiet by engine.old engine.new }
     ensures log { engine.new.log ≡ engine.old.log }
-    ensures written { OnOk result ((job : JobView) → job_of by engine.old.upkeep ≡ Some job → MergeIsWritten D.tells D.seen D.now D.leaves engine.new by job.want) }
+    ensures written { OnOk result (MergeIsWritten D.tells D.seen D.now D.leaves engine.new by want.Flush) }
     ensures memory { result ≡ Err MaintNo.Memory → MayAbandon engine.new by }
     ensures stops { result ≡ Err MaintNo.Stopped → engine.new.tablet.core.stopped ≡ true }
     ensures home { engine.new.store.holder ≡ None }

@@ -2,7 +2,7 @@
 ghost use Rattle.std.specs.Prelude.{◌≡◌, ◌⊎◌, [], None, Some, false};
 ghost use Rattle.kt_engine.specs.Engines.{IsLent};
 ghost use Rattle.kt_engine.specs.Visits.{IsVisit};
-ghost use Rattle.kt_maint.specs.Runs.{AppendsAs, ReadyAs, HasNoDevice, StandsAs};
+ghost use Rattle.kt_maint.specs.Runs.{is_pass, AppendsAs, SettlesAs, ReadyAs, HasNoDevice, StandsAs};
 
 use kt_base::Clock;
 use kt_disk::Disk;
@@ -67,6 +67,27 @@ fn settle<L: Disk, D: Disk + Drop, C: Clock>(engine: &Engine<L, D, C>) -> Ready
     }
 }
 
+/// Makes all that is queued durable, and takes the log home. It waits where another pass has the log out. After a fault the tablet is stopped.
+pub fn append_waiting<L: Disk, D: Disk + Drop, C: Clock>(
+    alloc: Global,
+    engine: &mut Engine<L, D, C>,
+    by: u32,
+) -> Ready
+    requires home { is_pass engine.old.log.holder by ≡ false }
+    ensures visit { IsVisit by engine.old engine.new }
+    ensures still { StandsAs by engine.old engine.new }
+    ensures settles { SettlesAs by engine.old engine.new result }
+{
+    engine.standing();
+    match engine.log_out(alloc, by) {
+        Err(LogNo::Empty) => Ready::Yes,
+        Ok(batch) => append(alloc, engine, by, batch),
+        Err(LogNo::Stopped) => Ready::Stopped,
+        Err(LogNo::Out { by: _ }) => Ready::Wait,
+        Err(LogNo::Memory) => Ready::Memory,
+    }
+}
+
 /// Makes all that is queued durable, and tells whether nothing is under way. After a fault the tablet is stopped.
 pub fn make_ready<L: Disk, D: Disk + Drop, C: Clock>(
     alloc: Global,
@@ -78,18 +99,10 @@ pub fn make_ready<L: Disk, D: Disk + Drop, C: Clock>(
     ensures still { StandsAs by engine.old engine.new }
     ensures ready { ReadyAs by engine.old engine.new result }
 {
-    engine.standing();
-    match engine.log_out(alloc, by) {
-        Err(LogNo::Empty) => settle(engine),
-        Ok(batch) => match append(alloc, engine, by, batch) {
-            Ready::Yes => settle(engine),
-            // It waits for nobody.
-            Ready::Wait => unreachable!(),
-            Ready::Stopped => Ready::Stopped,
-            Ready::Memory => Ready::Memory,
-        },
-        Err(LogNo::Stopped) => Ready::Stopped,
-        Err(LogNo::Out { by: _ }) => Ready::Wait,
-        Err(LogNo::Memory) => Ready::Memory,
+    match append_waiting(alloc, engine, by) {
+        Ready::Yes => settle(engine),
+        Ready::Wait => Ready::Wait,
+        Ready::Stopped => Ready::Stopped,
+        Ready::Memory => Ready::Memory,
     }
 }

@@ -1,10 +1,11 @@
 //! Writing those files of a disk rowset that are not written yet.
-ghost use Rattle.std.specs.Prelude.{◌≡◌, ◌≢◌, None, false, true, Err, IfOk};
+ghost use Rattle.std.specs.Prelude.{◌≡◌, ◌≢◌, ◌<◌, ◌+◌, ◌^◌, None, false, true, Err, IfOk};
 ghost use Rattle.kt_outputs.specs.Outputs.{IsWhole};
 ghost use Rattle.kt_engine.specs.Visits.{IsVisit};
 ghost use Rattle.kt_maint.specs.Runs.{IsQuiet, LentToWrite, HasTurned, HasBroken, StandsAs};
 ghost use Rattle.kt_maint.specs.DeltaRuns.{HasRewritten};
 
+use crate::numbers::end_of_turn;
 use kt_base::Clock;
 use kt_disk::Disk;
 use kt_diskrowset::RowSetData;
@@ -24,6 +25,7 @@ fn rewrite_and_return<L: Disk, D: Disk + Drop, C: Clock>(
     requires lent { LentToWrite by engine.old.store lent }
     requires goes { engine.old.tablet.core.stopped ≡ false }
     requires whole { IsWhole rowset.now }
+    requires near_files { engine.old.store.next_file < engine.old.first_file + 2 ^ 44 }
     ensures turned { result ≢ Err MaintNo.Stopped → HasTurned engine.old engine.new × (engine.new.upkeep ≡ engine.old.upkeep) }
     ensures broken { result ≡ Err MaintNo.Stopped → HasBroken engine.old engine.new }
     ensures files { IfOk result (λ out. HasRewritten D.tells D.seen D.now D.leaves engine.old.store engine.new.store rowset.now out) }
@@ -34,7 +36,8 @@ fn rewrite_and_return<L: Disk, D: Disk + Drop, C: Clock>(
         rowset: lent.next_rowset,
         file: lent.next_file,
     };
-    let written = write_rewritten(alloc, &mut lent.device, &mut next, rowset);
+    let most = end_of_turn(lent.next_file);
+    let written = write_rewritten(alloc, &mut lent.device, &mut next, most, rowset);
     lent.next_file = next.file;
     match written {
         Ok(rewritten) => {

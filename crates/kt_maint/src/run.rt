@@ -1,10 +1,14 @@
-//! Calls for one job, each in a visit of the lock in which nothing is under way.
-ghost use Rattle.kt_seatlock.specs.Passes.{number, seen, part, MayEnter, IsBack};
+//! Calls for one job, each in a visit of the lock in which nothing is under way, and a compaction in two.
+ghost use Rattle.std.specs.Prelude.{◌≡◌, false, [], None, Some};
+ghost use Rattle.kt_seatlock.specs.Passes.{number, seen, part, got, MayEnter, IsBack, IsSamePass, IsAsFull};
 ghost use Rattle.kt_pick.specs.declared.rules.Want.TheVariants as want;
 ghost use Rattle.kt_engine.specs.Calls.{SeesOthers, HasNoDevice, StandsStill};
-ghost use Rattle.kt_maint.specs.Calls.{AfterCall, AfterTurn};
+ghost use Rattle.kt_engine.specs.Visits.{part_in};
+ghost use Rattle.kt_maint.specs.Calls.{AfterCall, AfterEnd, AfterStart, ComesTo, HasAway, ran_of};
 
-use crate::jobs::job_now;
+use crate::ending::end_now;
+use crate::jobs::{Start, start_now};
+use crate::outside::{Outcome, Outside, write_outside};
 use crate::tries::Turn;
 use kt_base::Clock;
 use kt_disk::Disk;
@@ -30,35 +34,112 @@ fn is_held<L: Disk, D: Disk + Drop, C: Clock>(engine: &Engine<L, D, C>) -> bool 
     !engine.is_stopped() && !engine.is_idle()
 }
 
-// One visit that tries a job. Where it has to wait for what another pass has, it wakes nobody who rests.
+// One visit that tries a job, or begins one that goes on outside. Where it has to wait for what another pass has, it wakes nobody who rests.
 fn try_job<L: Disk, D: Disk + Drop, C: Clock, R: Wait>(
     rt: &R,
     alloc: Global,
     lock: &SeatLock<Engine<L, D, C>>,
     pass: &mut Pass<Engine<L, D, C>>,
     want: &Want,
-) -> Turn
+) -> Start<Turn, D>
     requires enters { MayEnter lock.now pass.old }
     requires home { HasNoDevice (part pass.old) }
     ensures pass { IsBack pass.old pass.new }
     ensures still { StandsStill (part pass.old) (part pass.new) }
     ensures quiet { SeesOthers (number pass.old) (seen pass.old) (seen pass.new) }
-    ensures turn { AfterTurn want.now (part pass.old) (part pass.new) (seen pass.new) result }
+    ensures start { AfterStart D.tells D.seen (number pass.old) want.now (part pass.old) (part pass.new) (seen pass.new) result }
 {
     let by = pass.number();
     let mut engine = lock.enter(rt, pass);
     if is_held(&engine) {
         lock.leave_same(pass, engine);
-        return Turn::Wait;
+        return Start::Over(Turn::Wait);
     }
-    let turn = job_now(alloc, &mut engine, by, want);
+    let start = start_now(alloc, &mut engine, by, want);
     // Its lines tell whether the tablet has stopped.
     engine.standing();
     lock.leave(pass, engine);
-    turn
+    start
 }
 
-/// Runs a job for a want. It waits until nothing is under way. For want of memory nothing is changed but that the rows in memory are frozen. A pass that has a job
+// Enters the lock once nothing flies and the log is at home, or the tablet has stopped. Where it has to wait it wakes nobody who rests.
+fn enter_quiet<L: Disk, D: Disk + Drop, C: Clock, R: Wait>(
+    rt: &R,
+    lock: &SeatLock<Engine<L, D, C>>,
+    pass: &mut Pass<Engine<L, D, C>>,
+) -> Engine<L, D, C>
+    requires enters { MayEnter lock.now pass.old }
+    ensures pass { IsSamePass pass.old pass.new × IsAsFull pass.old pass.new }
+    ensures got { (got pass.new ≡ Some result) × (seen pass.new ≡ result.tablet.core.trail) }
+    ensures trail { SeesOthers (number pass.old) (seen pass.old) result.tablet.core.trail }
+    ensures part { (part pass.old ≡ Some (part_in result (number pass.old))) × (part pass.new ≡ part pass.old) }
+    ensures quiet { result.tablet.core.stopped ≡ false → (result.tablet.core.aloft ≡ []) × (result.log.holder ≡ None) }
+{
+    'visits: for _ in rt.forever() {
+        let engine = lock.enter(rt, pass);
+        if engine.is_stopped() || engine.is_quiet() {
+            return engine;
+        }
+        lock.leave_same(pass, engine);
+        lock.rest(rt, pass);
+    }
+    unreachable!()
+}
+
+/// The last visit of a compaction of this pass that was outside the lock, with what was written there.
+pub fn end_job<L: Disk, D: Disk + Drop, C: Clock, R: Wait>(
+    rt: &R,
+    alloc: Global,
+    lock: &SeatLock<Engine<L, D, C>>,
+    pass: &mut Pass<Engine<L, D, C>>,
+    outcome: Outcome<D>,
+) -> Result<(), MaintNo>
+    requires enters { MayEnter lock.now pass.old }
+    requires comes { ComesTo D.tells D.seen D.now D.leaves D.faults (number pass.old) outcome (part pass.old) }
+    ensures pass { IsBack pass.old pass.new }
+    ensures still { StandsStill (part pass.old) (part pass.new) }
+    ensures quiet { SeesOthers (number pass.old) (seen pass.old) (seen pass.new) }
+    ensures end { AfterEnd (part pass.old) (part pass.new) (seen pass.new) result }
+{
+    let by = pass.number();
+    let mut engine = enter_quiet(rt, lock, pass);
+    let ended = end_now(alloc, &mut engine, by, outcome);
+    // Its lines tell whether the tablet has stopped.
+    engine.standing();
+    lock.leave(pass, engine);
+    ended
+}
+
+/// What a compaction of this pass does outside the lock, and its last visit.
+pub fn end_outside<L: Disk, D: Disk + Drop, C: Clock, R: Wait>(
+    rt: &R,
+    alloc: Global,
+    lock: &SeatLock<Engine<L, D, C>>,
+    pass: &mut Pass<Engine<L, D, C>>,
+    out: Outside<D>,
+) -> Result<(), MaintNo>
+    requires enters { MayEnter lock.now pass.old }
+    requires away { HasAway D.tells D.seen (number pass.old) out (part pass.old) }
+    ensures pass { IsBack pass.old pass.new }
+    ensures still { StandsStill (part pass.old) (part pass.new) }
+    ensures quiet { SeesOthers (number pass.old) (seen pass.old) (seen pass.new) }
+    ensures end { AfterEnd (part pass.old) (part pass.new) (seen pass.new) result }
+{
+    let outcome = write_outside(alloc, out);
+    end_job(rt, alloc, lock, pass, outcome)
+}
+
+// How a call ended whose job went outside.
+fn answer(ended: Result<(), MaintNo>) -> Result<Ran, MaintNo>
+    ensures { result ≡ ran_of ended }
+{
+    match ended {
+        Ok(()) => Ok(Ran::Done),
+        Err(no) => Err(no),
+    }
+}
+
+/// Runs a job for a want: a compaction in two visits, and the others in one. It waits until nothing is under way. For want of memory nothing is changed but that the rows in memory are frozen. A pass that has a job
 /// is answered as for want of memory.
 pub fn run_job<L: Disk, D: Disk + Drop, C: Clock, R: Wait>(
     rt: &R,
@@ -76,11 +157,12 @@ pub fn run_job<L: Disk, D: Disk + Drop, C: Clock, R: Wait>(
 {
     'tries: for _ in rt.forever() {
         match try_job(rt, alloc, lock, pass, want) {
-            Turn::Done => return Ok(Ran::Done),
-            Turn::Nothing => return Ok(Ran::Nothing),
-            Turn::Stopped => return Err(MaintNo::Stopped),
-            Turn::Memory => return Err(MaintNo::Memory),
-            Turn::Wait => lock.rest(rt, pass),
+            Start::Over(Turn::Done) => return Ok(Ran::Done),
+            Start::Over(Turn::Nothing) => return Ok(Ran::Nothing),
+            Start::Over(Turn::Stopped) => return Err(MaintNo::Stopped),
+            Start::Over(Turn::Memory) => return Err(MaintNo::Memory),
+            Start::Over(Turn::Wait) => lock.rest(rt, pass),
+            Start::Out(out) => return answer(end_outside(rt, alloc, lock, pass, out)),
         }
     }
     unreachable!()

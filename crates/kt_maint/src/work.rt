@@ -1,12 +1,16 @@
-//! Background workers: each picks a job and runs it in one visit, and rests where there is none.
+//! Background workers: each picks a job and runs it, in the visit in which it picked it or, a compaction, in that one and one more, and rests where there is none.
 ghost use Rattle.std.specs.Prelude.{◌≡◌, ◌≢◌, ◌⊎◌, false, IfOk};
 ghost use Rattle.kt_seatlock.specs.Passes.{number, seen, part, MayEnter, IsBack, IsPassOf, IsOutside, IsSame};
 ghost use Rattle.kt_engine.specs.Calls.{SeesOthers, HasNoDevice, StandsStill};
 ghost use Rattle.kt_engine.specs.Visits.{IsVisit};
+ghost use Rattle.kt_maint.specs.Calls.{HasAway};
+ghost use Rattle.kt_maint.specs.declared.jobs.Start.TheVariants as start;
 ghost use Rattle.kt_maint.specs.Runs.{HasNoDevice as PassHasNone, StandsAs};
-ghost use Rattle.kt_maint.specs.Work.{Picks};
+ghost use Rattle.kt_maint.specs.Work.{Picks, TookAs};
 
-use crate::jobs::job_now;
+use crate::jobs::{Start, start_now};
+use crate::outside::Outside;
+use crate::run::end_outside;
 use crate::tries::Turn;
 use kt_base::{Clock, NoMemory};
 use kt_disk::Disk;
@@ -119,6 +123,16 @@ impl Step {
     }
 }
 
+// Whether the visit of a turn may have changed the engine.
+fn changes<D>(took: &Start<Step, D>) -> bool
+    ensures { result ≡ false → (took.now ≡ start.Over Step.Busy) ⊎ (took.now ≡ start.Over Step.Idle) }
+{
+    match took {
+        Start::Over(step) => step.changes(),
+        Start::Out(_) => true,
+    }
+}
+
 // Tries what was picked, in the visit in which it was. Where something is under way after all it is looked for again.
 fn run_found<L: Disk, D: Disk + Drop, C: Clock>(
     alloc: Global,
@@ -126,54 +140,55 @@ fn run_found<L: Disk, D: Disk + Drop, C: Clock>(
     by: u32,
     want: &Want,
     watch: &mut Option<Watch>,
-) -> Step
+) -> Start<Step, D>
     requires home { PassHasNone by engine.old }
     ensures visit { IsVisit by engine.old engine.new }
     ensures still { StandsAs by engine.old engine.new }
-    ensures home { PassHasNone by engine.new }
-    ensures tried { (result ≢ Step.Busy) × (result ≢ Step.Idle) }
+    ensures took { TookAs D.tells D.seen by engine.new result }
+    ensures tried { (result ≢ start.Over Step.Busy) × (result ≢ start.Over Step.Idle) }
 {
-    match job_now(alloc, engine, by, want) {
-        Turn::Done => Step::Worked,
-        Turn::Nothing => Step::Tried,
-        Turn::Wait => {
+    match start_now(alloc, engine, by, want) {
+        Start::Out(out) => Start::Out(out),
+        Start::Over(Turn::Done) => Start::Over(Step::Worked),
+        Start::Over(Turn::Nothing) => Start::Over(Step::Tried),
+        Start::Over(Turn::Wait) => {
             *watch = None;
-            Step::Tried
+            Start::Over(Step::Tried)
         }
-        Turn::Stopped | Turn::Memory => Step::Over,
+        Start::Over(Turn::Stopped | Turn::Memory) => Start::Over(Step::Over),
     }
 }
 
-// Looks where a rule may apply and nothing is under way, and runs the job of the first that does.
+// Looks where a rule may apply and nothing is under way, and runs the job of the first that does, or begins it where it goes on outside.
 fn turn<L: Disk, D: Disk + Drop, C: Clock>(
     alloc: Global,
     engine: &mut Engine<L, D, C>,
     by: u32,
     watch: &mut Option<Watch>,
-) -> Step
+) -> Start<Step, D>
     requires home { PassHasNone by engine.old }
     ensures visit { IsVisit by engine.old engine.new }
     ensures still { StandsAs by engine.old engine.new }
-    ensures home { PassHasNone by engine.new }
-    ensures same { (result ≡ Step.Busy) ⊎ (result ≡ Step.Idle) → engine.new ≡ engine.old }
+    ensures took { TookAs D.tells D.seen by engine.new result }
+    ensures same { (result ≡ start.Over Step.Busy) ⊎ (result ≡ start.Over Step.Idle) → engine.new ≡ engine.old }
 {
     if engine.over() || engine.is_stopped() {
-        return Step::Over;
+        return Start::Over(Step::Over);
     }
     let pulse = engine.pulse();
     if !is_due(*watch, pulse) {
-        return Step::Idle;
+        return Start::Over(Step::Idle);
     }
     if !engine.is_idle() {
-        return Step::Busy;
+        return Start::Over(Step::Busy);
     }
     let Ok(Found { want, leeway }) = look(alloc, engine) else {
-        return Step::Over;
+        return Start::Over(Step::Over);
     };
     *watch = Some(Watch { pulse, leeway });
     match want {
         Some(want) => run_found(alloc, engine, by, &want, watch),
-        None => Step::Idle,
+        None => Start::Over(Step::Idle),
     }
 }
 
@@ -199,7 +214,28 @@ fn wait<L: Disk, D: Disk + Drop, C: Clock, R: Wait>(
     }
 }
 
-// One visit of a worker, and a rest behind it where it ran no job. Where it changed nothing it wakes nobody who rests.
+// The rest of a job that went outside.
+fn finish<L: Disk, D: Disk + Drop, C: Clock, R: Wait>(
+    rt: &R,
+    alloc: Global,
+    lock: &SeatLock<Engine<L, D, C>>,
+    pass: &mut Pass<Engine<L, D, C>>,
+    out: Outside<D>,
+) -> Step
+    requires enters { MayEnter lock.now pass.old }
+    requires away { HasAway D.tells D.seen (number pass.old) out (part pass.old) }
+    ensures pass { IsBack pass.old pass.new }
+    ensures still { StandsStill (part pass.old) (part pass.new) }
+    ensures quiet { SeesOthers (number pass.old) (seen pass.old) (seen pass.new) }
+    ensures home { HasNoDevice (part pass.new) }
+{
+    match end_outside(rt, alloc, lock, pass, out) {
+        Ok(()) => Step::Worked,
+        Err(_) => Step::Over,
+    }
+}
+
+// One visit of a worker, and a rest behind it where it ran no job, or the rest of a compaction. Where it changed nothing it wakes nobody who rests.
 fn take_step<L: Disk, D: Disk + Drop, C: Clock, R: Wait>(
     rt: &R,
     alloc: Global,
@@ -216,13 +252,18 @@ fn take_step<L: Disk, D: Disk + Drop, C: Clock, R: Wait>(
 {
     let by = pass.number();
     let mut engine = lock.enter(rt, pass);
-    let step = turn(alloc, &mut engine, by, watch);
-    lock.leave_as(pass, engine, step.changes());
-    wait(rt, lock, pass, step);
-    step
+    let took = turn(alloc, &mut engine, by, watch);
+    lock.leave_as(pass, engine, changes(&took));
+    match took {
+        Start::Over(step) => {
+            wait(rt, lock, pass, step);
+            step
+        }
+        Start::Out(out) => finish(rt, alloc, lock, pass, out),
+    }
 }
 
-/// A worker: it picks a job and runs it in the same visit, and rests where there is none. It looks again only where a rule may apply since the last look that
+/// A worker: it picks a job and runs it, and rests where there is none. It looks again only where a rule may apply since the last look that
 /// found nothing, and no sooner than after a millisecond. It ends once no session runs any more, where the tablet is stopped, after 1,048,576 jobs, or where
 /// picking or a job meets want of memory.
 pub fn work<L: Disk, D: Disk + Drop, C: Clock, R: Wait>(

@@ -4,7 +4,7 @@ ghost use Rattle.kt_outputs.specs.Outputs.{AreWhole};
 ghost use Rattle.kt_engine.specs.Visits.{IsVisit};
 ghost use Rattle.kt_maint.specs.Runs.{IsQuiet, HasFiles, LentToWrite, HasTurned, HasBroken, StandsAs};
 
-use crate::numbers::is_within;
+use crate::numbers::{end_of_turn, is_within};
 use kt_base::Clock;
 use kt_disk::Disk;
 use kt_diskrowset::Outputs;
@@ -29,6 +29,7 @@ fn write_and_return<L: Disk, D: Disk + Drop, C: Clock>(
     requires whole { AreWhole outputs.now.rowsets }
     requires few { length outputs.now.rowsets ≤ 2 ^ 32 }
     requires near { engine.old.store.next_rowset < engine.old.first_rowset + 2 ^ 44 }
+    requires near_files { engine.old.store.next_file < engine.old.first_file + 2 ^ 44 }
     ensures turned { result ≢ Err MaintNo.Stopped → HasTurned engine.old engine.new × (engine.new.upkeep ≡ engine.old.upkeep) }
     ensures broken { result ≡ Err MaintNo.Stopped → HasBroken engine.old engine.new }
     ensures files { IfOk result (λ out. HasFiles D.tells D.seen D.now D.leaves engine.old.store engine.new.store outputs.now.rowsets out.rowsets) }
@@ -39,7 +40,8 @@ fn write_and_return<L: Disk, D: Disk + Drop, C: Clock>(
         rowset: lent.next_rowset,
         file: lent.next_file,
     };
-    let written = write_outputs(alloc, &mut lent.device, &mut next, outputs);
+    let most = end_of_turn(lent.next_file);
+    let written = write_outputs(alloc, &mut lent.device, &mut next, most, outputs);
     is_within(next.rowset);
     lent.next_rowset = next.rowset;
     lent.next_file = next.file;

@@ -8,8 +8,9 @@ use Rattle.kt_diskrowset.specs.Data.{held_in}
 use Rattle.kt_files.specs.Reading.{HoldsRowset}
 use Rattle.kt_outputs.specs.Outputs.{meta_in, AreStable as FilesStable}
 use Rattle.kt_outputs.specs.Rewriting.{HasNumbers, KeptStand}
+use Rattle.kt_engine.specs.Moments.{LeavesInTurn}
 use Rattle.kt_maint.proofs.Failed.{of_lent}
-use Rattle.kt_maint.proofs.Turns.{left_turn, super_stays, slots_stay, has_one}
+use Rattle.kt_maint.proofs.Turns.{files_near, left_turn, super_stays, slots_stay, has_one}
 use Rattle.kt_maint.proofs.Visiting.{came_broken}
 use Rattle.kt_maint.proofs.rewriting.rewrite_and_return.Goals as goal
 
@@ -82,3 +83,27 @@ returns-in-Ok-clause-files g c =
       stable = λ told. subst (λ s. FilesStable seen now leaves first s.next_file s.known) (sym is) (subst (λ (n : ℕ). FilesStable seen now leaves n later.file disk) c.requires.lent.numbers.1 (e.stable told));
       meta = ap (λ s. s.meta) is;
     }
+
+-- not too many file numbers are given
+pub store_home-requires-clause-near_files : goal.store_home-requires-clause-near_files
+store_home-requires-clause-near_files g c = files_near c.args.engine.now.store.next_file c.args.engine.now.first_file c.args.lent.next_file c.write_rewritten-written.new.next.file c.end_of_turn-most.result c.requires.near_files c.requires.lent.numbers.1 c.end_of_turn-most.ensures.few c.write_rewritten-written.ensures.few
+
+pub store_home-requires-in-Err-Memory-clause-near_files : goal.store_home-requires-in-Err-Memory-clause-near_files
+store_home-requires-in-Err-Memory-clause-near_files g c = files_near c.args.engine.now.store.next_file c.args.engine.now.first_file c.args.lent.next_file c.write_rewritten-written.new.next.file c.end_of_turn-most.result c.requires.near_files c.requires.lent.numbers.1 c.end_of_turn-most.ensures.few c.write_rewritten-written.ensures.few
+
+-- at each moment no file had changed but those of new numbers
+
+pub store_home-requires-clause-moments : goal.store_home-requires-clause-moments
+store_home-requires-clause-moments g c = λ t.
+    let s = c.args.engine.now.store in
+    subst (λ o. LeavesInTurn g.D.Disk.seen g.D.Disk.now g.D.Disk.leaves o s.next_file c.write_rewritten-written.new.next.file s.known c.write_rewritten-written.new.disk) (sym c.requires.lent.meta.1) (rw (← c.requires.lent.device) (rw (← c.requires.lent.numbers.1) (c.write_rewritten-written.ensures.left t).any_moment))
+
+pub store_home-requires-in-Err-Memory-clause-moments : goal.store_home-requires-in-Err-Memory-clause-moments
+store_home-requires-in-Err-Memory-clause-moments g c = λ t.
+    let s = c.args.engine.now.store in
+    subst (λ o. LeavesInTurn g.D.Disk.seen g.D.Disk.now g.D.Disk.leaves o s.next_file c.write_rewritten-written.new.next.file s.known c.write_rewritten-written.new.disk) (sym c.requires.lent.meta.1) (rw (← c.requires.lent.device) (rw (← c.requires.lent.numbers.1) (c.write_rewritten-written.ensures.left t).any_moment))
+
+pub stop-requires-clause-store_moments : goal.stop-requires-clause-store_moments
+stop-requires-clause-store_moments g c = λ lent same.
+    let s = c.args.engine.now.store in
+    of_lent (λ l. IsTrue g.D.Disk.tells → LeavesInTurn g.D.Disk.seen g.D.Disk.now g.D.Disk.leaves s.lent s.next_file l.next_file s.known l.device) _ lent same (λ t. subst (λ o. LeavesInTurn g.D.Disk.seen g.D.Disk.now g.D.Disk.leaves o s.next_file c.write_rewritten-written.new.next.file s.known c.write_rewritten-written.new.disk) (sym c.requires.lent.meta.1) (rw (← c.requires.lent.device) (rw (← c.requires.lent.numbers.1) (c.write_rewritten-written.ensures.left t).any_moment)))

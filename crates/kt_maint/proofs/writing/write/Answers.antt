@@ -15,3 +15,6 @@ unreachable-requires-in-Err-Out g c =
 
 pub write_and_return-requires-clause-near : goal.write_and_return-requires-clause-near
 write_and_return-requires-clause-near g c = subst (λ v. v.store.next_rowset < v.first_rowset + 2 ^ 44) (sym c.in-Ok.ensures.lent.2) (c.in-Ok.ensures.near refl)
+
+pub write_and_return-requires-clause-near_files : goal.write_and_return-requires-clause-near_files
+write_and_return-requires-clause-near_files g c = subst (λ v. v.store.next_file < v.first_file + 2 ^ 44) (sym c.in-Ok.ensures.lent.2) (c.in-Ok.ensures.near_files refl)

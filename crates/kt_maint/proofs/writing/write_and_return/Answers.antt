@@ -1,6 +1,7 @@
 use Rattle.std.proofs.Common.{◌≡◌, ◌≤◌, ◌<◌, ◌+◌, ◌^◌, ℕ, length, map, true, refl, sym, ap, subst, ◌∙◌, arith}
 use Rattle.std.specs.Prelude.{IsTrue, max}
 use Rattle.std.proofs.Math.Nat.{le-max_right}
+use Rattle.kt_engine.specs.Moments.{LeavesInTurn}
 use Rattle.kt_engine.specs.Near.{most_rowsets}
 use Rattle.kt_super.specs.Slots.{super_of, AreStable}
 use Rattle.kt_storeside.specs.Turns.{IsTurn, HasOneOf}
@@ -10,7 +11,7 @@ use Rattle.kt_diskrowset.specs.Data.{held_in}
 use Rattle.kt_files.specs.Reading.{HoldAll}
 use Rattle.kt_outputs.specs.Outputs.{meta_in, all_file_numbers, CountUp, AreStable as FilesStable, AreWritten}
 use Rattle.kt_maint.proofs.Failed.{of_lent}
-use Rattle.kt_maint.proofs.Turns.{left_turn, super_stays, slots_stay, has_one}
+use Rattle.kt_maint.proofs.Turns.{files_near, left_turn, super_stays, slots_stay, has_one}
 use Rattle.kt_maint.proofs.Visiting.{came_broken}
 use Rattle.kt_maint.proofs.writing.write_and_return.Goals as goal
 
@@ -37,6 +38,11 @@ pub store_home-requires-in-Err-Memory-clause-turn : goal.store_home-requires-in-
 store_home-requires-in-Err-Memory-clause-turn g c = λ told.
     let low : 3 ≤ c.args.lent.next_file = (let a = first_file c.args.engine.now.store.meta c.standing.ensures.side.rules in let b = c.standing.ensures.side.files in let e = c.requires.lent.numbers.1 in omega arith) in
     rw (← c.requires.lent.device) (rw (← c.requires.lent.numbers.1) (left_turn g.D.Disk.seen g.D.Disk.now g.D.Disk.leaves _ _ _ _ low (c.write_outputs-written.ensures.left told)))
+
+pub store_home-requires-in-Err-Memory-clause-superblock : goal.store_home-requires-in-Err-Memory-clause-superblock
+store_home-requires-in-Err-Memory-clause-superblock g c = λ told.
+    let low : 3 ≤ c.args.lent.next_file = (let a = first_file c.args.engine.now.store.meta c.standing.ensures.side.rules in let b = c.standing.ensures.side.files in let e = c.requires.lent.numbers.1 in omega arith) in
+    super_stays g.D.Disk.seen g.D.Disk.now g.D.Disk.leaves _ _ _ _ low (c.write_outputs-written.ensures.left told) ∙ ap (λ d. super_of (g.D.Disk.seen d)) c.requires.lent.device ∙ (c.standing.ensures.side.publishes told).superblock
 
 pub store_home-requires-in-Err-Memory-clause-slots : goal.store_home-requires-in-Err-Memory-clause-slots
 store_home-requires-in-Err-Memory-clause-slots g c = λ told.
@@ -88,3 +94,27 @@ store_home-requires-clause-near g c = near c.args.engine.now.store.next_rowset c
 
 pub store_home-requires-in-Err-Memory-clause-near : goal.store_home-requires-in-Err-Memory-clause-near
 store_home-requires-in-Err-Memory-clause-near g c = near c.args.engine.now.store.next_rowset c.args.engine.now.first_rowset c.args.lent.next_rowset c.write_outputs-written.new.next.rowset (length c.args.outputs.now.rowsets) c.requires.near c.requires.few c.requires.lent.numbers.0 c.write_outputs-written.ensures.risen
+
+-- not too many file numbers are given
+pub store_home-requires-clause-near_files : goal.store_home-requires-clause-near_files
+store_home-requires-clause-near_files g c = files_near c.args.engine.now.store.next_file c.args.engine.now.first_file c.args.lent.next_file c.write_outputs-written.new.next.file c.end_of_turn-most.result c.requires.near_files c.requires.lent.numbers.1 c.end_of_turn-most.ensures.few c.write_outputs-written.ensures.few_files
+
+pub store_home-requires-in-Err-Memory-clause-near_files : goal.store_home-requires-in-Err-Memory-clause-near_files
+store_home-requires-in-Err-Memory-clause-near_files g c = files_near c.args.engine.now.store.next_file c.args.engine.now.first_file c.args.lent.next_file c.write_outputs-written.new.next.file c.end_of_turn-most.result c.requires.near_files c.requires.lent.numbers.1 c.end_of_turn-most.ensures.few c.write_outputs-written.ensures.few_files
+
+-- at each moment no file had changed but those of new numbers
+
+pub store_home-requires-clause-moments : goal.store_home-requires-clause-moments
+store_home-requires-clause-moments g c = λ t.
+    let s = c.args.engine.now.store in
+    subst (λ o. LeavesInTurn g.D.Disk.seen g.D.Disk.now g.D.Disk.leaves o s.next_file c.write_outputs-written.new.next.file s.known c.write_outputs-written.new.disk) (sym c.requires.lent.meta.1) (rw (← c.requires.lent.device) (rw (← c.requires.lent.numbers.1) (c.write_outputs-written.ensures.left t).any_moment))
+
+pub store_home-requires-in-Err-Memory-clause-moments : goal.store_home-requires-in-Err-Memory-clause-moments
+store_home-requires-in-Err-Memory-clause-moments g c = λ t.
+    let s = c.args.engine.now.store in
+    subst (λ o. LeavesInTurn g.D.Disk.seen g.D.Disk.now g.D.Disk.leaves o s.next_file c.write_outputs-written.new.next.file s.known c.write_outputs-written.new.disk) (sym c.requires.lent.meta.1) (rw (← c.requires.lent.device) (rw (← c.requires.lent.numbers.1) (c.write_outputs-written.ensures.left t).any_moment))
+
+pub stop-requires-clause-store_moments : goal.stop-requires-clause-store_moments
+stop-requires-clause-store_moments g c = λ lent same.
+    let s = c.args.engine.now.store in
+    of_lent (λ l. IsTrue g.D.Disk.tells → LeavesInTurn g.D.Disk.seen g.D.Disk.now g.D.Disk.leaves s.lent s.next_file l.next_file s.known l.device) _ lent same (λ t. subst (λ o. LeavesInTurn g.D.Disk.seen g.D.Disk.now g.D.Disk.leaves o s.next_file c.write_outputs-written.new.next.file s.known c.write_outputs-written.new.disk) (sym c.requires.lent.meta.1) (rw (← c.requires.lent.device) (rw (← c.requires.lent.numbers.1) (c.write_outputs-written.ensures.left t).any_moment)))

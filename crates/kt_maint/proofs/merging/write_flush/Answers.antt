@@ -5,7 +5,7 @@ use Rattle.kt_engine.specs.JobCalls.{GivesOne}
 use Rattle.kt_engine.proofs.JobCalls.{as_merge}
 use Rattle.kt_maint.proofs.Stages.{some_is}
 use Rattle.kt_maint.proofs.Written.{read_then, fresh_written, merge_written}
-use Rattle.kt_maint.proofs.merging.write_merged.Goals as goal
+use Rattle.kt_maint.proofs.merging.write_flush.Goals as goal
 
 pub hand_in-requires-clause-read : goal.hand_in-requires-clause-read
 hand_in-requires-clause-read g c =
@@ -33,4 +33,4 @@ returns-clause-written g c =
     merge_written g.D.Disk.tells g.D.Disk.seen g.D.Disk.now g.D.Disk.leaves c.args.by g.D.Disk.faults c.args.engine.now c.merge.new.engine c.write.new.engine c.hand_in.new.engine c.in-Ok.merged.rowsets c.in_ok-outputs.outputs.rowsets
     c.written_law.ensures.same c.written_law.ensures.pass c.written_law.ensures.told c.behind_law.ensures c.stand_law.ensures c.fewer_law.ensures.named c.fewer_law.ensures.stand
     c.standing.ensures.side c.requires.calm c.merge.ensures.quiet c.merge.ensures.beside read c.in-Ok.ensures.merged.1 (c.in-Ok.ensures.given read.job read.has) c.in-Ok.ensures.same
-    quiet.0 quiet.1 c.in_ok-outputs.ensures.files c.write.ensures.home c.hand_in.ensures.quiet c.hand_in.ensures.beside c.in-Ok-hand_in.ensures.written
+    quiet.0 quiet.1 c.in_ok-outputs.ensures.files c.write.ensures.home c.hand_in.ensures.quiet c.hand_in.ensures.beside c.in-Ok-hand_in.ensures.written c.requires.begun.at.job c.requires.begun.at.has c.requires.begun.want

@@ -1,0 +1,103 @@
+-- A call whose job goes outside the lock, as the part of its pass tells.
+use Rattle.std.proofs.Common.{◌≡◌, ℕ, Bool, true, List, Option, Some, None, Result, Ok, Err, refl, sym, ap, subst, ◌∙◌}
+use Rattle.kt_disk.specs.Disk.{Files}
+use Rattle.kt_history.specs.declared.event.Event.{Event}
+use Rattle.kt_pick.specs.declared.rules.Want.{Want}
+use Rattle.kt_storeside.specs.declared.side.Lent.{Lent}
+use Rattle.kt_engine.specs.Calls.{HasNoDevice, StandsStill}
+use Rattle.kt_engine.specs.Engines.{EngineView, TellsStop}
+use Rattle.kt_engine.specs.Jobs.{JobView, UpkeepView, asked, finished, job_of, upkeep_at}
+use Rattle.kt_engine.specs.Visits.{PartView, part_in, IsVisit}
+use Rattle.kt_engine.specs.declared.job.MaintNo.{MaintNo}
+use Rattle.kt_engine.specs.declared.job.MaintNo.TheVariants as no
+use Rattle.kt_engine.proofs.Visiting.{root_stays}
+use Rattle.kt_maint.specs.Calls.{AfterCall, AfterEnd, AfterStart, AfterTurn, ComesTo, HasAsked, HasAway, HasEndedJob, IsBetween, SameUpkeep, ran_of}
+use Rattle.kt_maint.specs.Done.{FoundBy, HasDoneJob, HasGiven}
+use Rattle.kt_maint.specs.Outside.{EndsAs, HasWritten, StartsAs, ended}
+use Rattle.kt_maint.specs.Runs.{HasNoDevice as PassHasNone, StandsAs}
+use Rattle.kt_maint.specs.declared.jobs.Start.{Start}
+use Rattle.kt_maint.specs.declared.jobs.Start.TheVariants as start
+use Rattle.kt_maint.specs.declared.outside.Outcome.{Outcome}
+use Rattle.kt_maint.specs.declared.outside.Outside.{Outside}
+use Rattle.kt_maint.specs.declared.tries.Turn.{Turn}
+use Rattle.kt_maint.proofs.Calling.{after_turn, done_then, none_lent, none_out, stop_told}
+use Rattle.kt_maint.proofs.Stages.{some_is}
+
+module _ {L D C : Type 0} (told told' : Option (PartView L D C)) (x y : EngineView L D C) (n : ℕ) (is : told ≡ Some (part_in x n)) (is' : told' ≡ Some (part_in y n)) (visit : IsVisit n x y) where
+  pub still_told : StandsAs n x y → StandsStill told told'
+  still_told s = record { was = part_in x n; was_is = is; part = part_in y n; is = is'; session = s.session; place = s.place; root = root_stays n x y visit }
+
+  pub home_told : PassHasNone n y → HasNoDevice told'
+  home_told h = record { part = part_in y n; is = is'; log = none_out y.log.holder y.log.out n h.log; store = none_lent y.store.holder y.store n h.store }
+
+  -- the visit that begins
+  pub after_start : HasNoDevice told → (tells : Bool) (seen : D → Files) (w : Want) (s : Start Turn D) (lines : List Event) → TellsStop y.tablet.core → lines ≡ y.tablet.core.trail → StartsAs tells seen n w x y s → AfterStart tells seen n w told told' lines s
+  after_start home tells seen w (start.Over t) lines stops sees h = after_turn told x n is home told' y is' visit w t lines stops sees h
+  after_start home tells seen w (start.Out out) lines stops sees h = record { was = part_in x n; was_is = is; part = part_in y n; is = is'; away = h.away; asks = h.asks }
+
+  -- and the last one
+  pub after_end : (job : JobView) → job_of n x.upkeep ≡ Some job → (r : Result (Unit {0}) MaintNo) (lines : List Event) → TellsStop y.tablet.core → lines ≡ y.tablet.core.trail → EndsAs n job.want x y r → AfterEnd told told' lines r
+  after_end job has (Ok done) lines stops sees h = (
+    record { was = part_in x n; was_is = is; its = job; had = has; part = part_in y n; is = is'; job = h.0.job; upkeep = h.0.upkeep; given = h.0.given },
+    home_told h.1,
+  )
+  after_end job has (Err no.Stopped) lines stops sees h = (stop_told y lines stops sees h.0, home_told h.1)
+  after_end job has (Err no.Memory) lines stops sees h = home_told h
+
+-- what was written comes back
+pub comes_to : {L D C : Type 0} (tells : Bool) (seen : D → Files) (now : D → ℕ) (leaves : D → ℕ → Files → Type 0) (faults : D → ℕ) (n : ℕ) (out : Outside D) (outcome : Outcome D) (told : Option (PartView L D C)) → HasAway tells seen n out told → (outcome.bound ≡ out.input.bound) × (outcome.most ≡ out.most)
+    → HasWritten tells seen now leaves faults outcome.most out.input out.lent outcome.lent outcome.written → ComesTo tells seen now leaves faults n outcome told
+comes_to tells seen now leaves faults n out outcome told h bound written = record { part = h.part; is = h.is; come = record { want = h.want; out = out; away = h.away; bound_is = bound.0; most_is = bound.1; written = written } }
+
+pub has_away : {L D C : Type 0} (tells : Bool) (seen : D → Files) (n : ℕ) (w : Want) (out : Outside D) (before mid : Option (PartView L D C)) → IsBetween tells seen n w out before mid → HasAway tells seen n out mid
+has_away tells seen n w out before mid between = record { want = w; part = between.part; is = between.is; away = between.away }
+
+-- how a turn ended, as it is known
+pub turn_at : {L D C : Type 0} (w : Want) (a b : Option (PartView L D C)) (lines : List Event) (t known : Turn) → t ≡ known → AfterTurn w a b lines t → AfterTurn w a b lines known
+turn_at w a b lines t known is h = subst (AfterTurn w a b lines) is h
+
+module _ {L D C : Type 0} (tells : Bool) (seen : D → Files) (n : ℕ) (w : Want) (out : Outside D) (before mid after : Option (PartView L D C)) (between : IsBetween tells seen n w out before mid) where
+  module _ (e : HasEndedJob mid after) where
+    same_part : e.was ≡ between.part
+    same_part = some_is e.was between.part (sym e.was_is ∙ between.is)
+
+    same_want : e.its.want ≡ w
+    same_want = ap (λ (j : JobView). j.want) (some_is e.its between.away.job (sym e.had ∙ ap (λ (p : PartView L D C). p.pass.upkeep.job) same_part ∙ between.away.own)) ∙ between.away.want.0
+
+    -- what the pass has of maintenance
+    all_upkeep : e.part.pass.upkeep ≡ ended w e.job (asked w between.away.job between.was.pass.upkeep)
+    all_upkeep = e.upkeep ∙ (λ k. ended (same_want k) e.job (same_part k).pass.upkeep) ∙ ap (ended w e.job) between.asks
+
+    its_ask : HasAsked (finished w) before after
+    its_ask = record {
+      was = between.was;
+      was_is = between.was_is;
+      part = e.part;
+      is = e.is;
+      asks = ap (λ (u : UpkeepView). u.asks) all_upkeep;
+      last_is = ap (λ (u : UpkeepView). u.last) all_upkeep;
+      round = (ap (λ (u : UpkeepView). u.round) all_upkeep, ap (λ (u : UpkeepView). u.rounds) all_upkeep);
+      todo = ap (λ (u : UpkeepView). u.todo) all_upkeep;
+      job = ap (λ (u : UpkeepView). u.job) all_upkeep;
+    }
+
+    its_job : HasDoneJob w after
+    its_job = record { part = e.part; is = e.is; job = e.job; done = ap (λ (u : UpkeepView). u.done) all_upkeep; given = subst (λ (x : Want). HasGiven (FoundBy e.part.root) x e.job) same_want e.given }
+
+  -- so the call has done what was asked
+  pub call_ended : (lines : List Event) (r : Result (Unit {0}) MaintNo) → AfterEnd mid after lines r → AfterCall w before after lines (ran_of r)
+  call_ended lines (Ok done) h = (its_ask h.0, h.1, its_job h.0)
+  call_ended lines (Err no.Stopped) h = h
+  call_ended lines (Err no.Memory) h = h
+
+-- however it ended the pass has no device
+pub end_home : {L D C : Type 0} (before after : Option (PartView L D C)) (lines : List Event) (r : Result (Unit {0}) MaintNo) → AfterEnd before after lines r → HasNoDevice after
+end_home before after lines (Ok done) h = h.1
+end_home before after lines (Err no.Stopped) h = h.1
+end_home before after lines (Err no.Memory) h = h
+
+-- it asked in a later visit, and had what it had of maintenance until then
+pub call_since : {L D C : Type 0} (a b c : Option (PartView L D C)) (w : Want) (lines : List Event) (r : Result (Unit {0}) MaintNo) → SameUpkeep a b → AfterCall w b c lines (ran_of r) → AfterCall w a c lines (ran_of r)
+call_since a b c w lines (Ok done) same h = done_then a b c w same h
+call_since a b c w lines (Err no.Stopped) same h = h
+call_since a b c w lines (Err no.Memory) same h = h

@@ -1,0 +1,28 @@
+use Rattle.std.proofs.Common.{ap, ◌∙◌}
+use Rattle.kt_pick.specs.declared.rules.Want.{Want}
+use Rattle.kt_maint.specs.JobRuns.{MayEnd, MayHandIn}
+use Rattle.kt_maint.proofs.Begun.{ends_as_carried, on_ok}
+use Rattle.kt_maint.proofs.Readying.{none_has}
+use Rattle.kt_maint.proofs.Visiting.{visits_on, stands_behind}
+use Rattle.kt_maint.proofs.ending.end_home.Goals as goal
+
+pub close-requires-clause-done : goal.close-requires-clause-done
+close-requires-clause-done g c =
+    let b = c.hand_over-carried.new.engine in
+    on_ok c.hand_over-carried.result ((w : Want) → MayHandIn g.D.Disk.tells g.D.Disk.seen g.D.Disk.now g.D.Disk.leaves c.args.engine.now c.args.by w c.args.outputs.rowsets → MayEnd b c.args.by w)
+    (λ ends. (c.requires.may.0, ends c.requires.may.0 c.requires.may.1)) c.hand_over-carried.ensures.published
+
+pub returns-clause-visit : goal.returns-clause-visit
+returns-clause-visit g c = visits_on c.args.by c.args.engine.now c.hand_over-carried.new.engine c.close.new.engine c.hand_over-carried.ensures.visit c.close.ensures.line c.close.ensures.visit
+
+pub returns-clause-still : goal.returns-clause-still
+returns-clause-still g c = stands_behind c.args.by c.args.engine.now c.hand_over-carried.new.engine c.close.new.engine c.hand_over-carried.ensures.still c.close.ensures.line c.close.ensures.still
+
+pub returns-clause-ends : goal.returns-clause-ends
+returns-clause-ends g c = λ w may.
+    let e = c.hand_over-carried.ensures in
+    let x = c.close.ensures in
+    let b = c.hand_over-carried.new.engine in
+    ends_as_carried c.args.by c.args.engine.now b c.close.new.engine w c.hand_over-carried.result c.close.result x.same x.beside.0 x.beside.1
+    (none_has b.log.holder c.args.by (ap (λ l. l.holder) e.log ∙ c.requires.calm.settled.2)) e.home e.asks
+    (on_ok c.hand_over-carried.result ((x : Want) → MayHandIn g.D.Disk.tells g.D.Disk.seen g.D.Disk.now g.D.Disk.leaves c.args.engine.now c.args.by x c.args.outputs.rowsets → MayEnd b c.args.by x) (λ ends. ends w may) e.published) x.stopped e.stops x.ended

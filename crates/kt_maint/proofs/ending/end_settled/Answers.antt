@@ -1,0 +1,117 @@
+use Rattle.std.proofs.Common.{Some, Ok, Err, refl, sym, ap, subst, ◌∙◌}
+use Rattle.kt_base.specs.Causes.{Rose}
+use Rattle.kt_maint.specs.JobRuns.{MayHandIn}
+use Rattle.kt_maint.specs.Outside.{IsPutIn, EndsAs}
+use Rattle.kt_maint.specs.Runs.{KeepsAsks}
+use Rattle.kt_maint.proofs.Begun.{ends_failed, ends_then}
+use Rattle.kt_maint.proofs.LateWritten.{home_both, its_most, went_out, may_come_home, home_then, home_of, may_hand_in, rose_after}
+use Rattle.kt_maint.proofs.Readying.{no_device}
+use Rattle.kt_maint.proofs.Stages.{some_is}
+use Rattle.kt_maint.proofs.Visiting.{visit_then, visits_then, stands_same, stands_then}
+use Rattle.kt_maint.proofs.ending.end_settled.Goals as goal
+
+pub take_home-requires-clause-out : goal.take_home-requires-clause-out
+take_home-requires-clause-out g c = ap (λ v. v.store.holder) c.put_late.ensures.beside ∙ (went_out g.D.Disk.tells g.D.Disk.seen g.D.Disk.now g.D.Disk.leaves g.D.Disk.faults c.args.by c.args.bound c.args.most c.args.lent _ c.args.engine.now c.requires.come).out
+
+pub take_home-requires-clause-may : goal.take_home-requires-clause-may
+take_home-requires-clause-may g c =
+    home_of g.D.Disk.tells g.D.Disk.seen g.D.Disk.now g.D.Disk.leaves g.D.Disk.faults c.args.engine.now c.put_late.new.engine c.put_late.new.lent c.put_late.ensures.beside
+    (home_then g.D.Disk.tells g.D.Disk.seen g.D.Disk.now g.D.Disk.leaves g.D.Disk.faults c.args.engine.now.first_rowset c.args.engine.now.first_file c.args.most c.args.engine.now.store c.args.lent c.put_late.new.lent _ (its_most g.D.Disk.tells g.D.Disk.seen g.D.Disk.now g.D.Disk.leaves g.D.Disk.faults c.args.by c.args.bound c.args.most c.args.lent _ c.args.engine.now c.requires.come)
+    (may_come_home g.D.Disk.tells g.D.Disk.seen g.D.Disk.now g.D.Disk.leaves g.D.Disk.faults c.args.by c.args.bound c.args.most c.args.lent _ c.args.engine.now c.requires.come) c.put_late.ensures.added)
+
+pub fail-requires-clause-out : goal.fail-requires-clause-out
+fail-requires-clause-out g c = ap (λ v. v.store.holder) c.put_late.ensures.beside ∙ (went_out g.D.Disk.tells g.D.Disk.seen g.D.Disk.now g.D.Disk.leaves g.D.Disk.faults c.args.by c.args.bound c.args.most c.args.lent _ c.args.engine.now c.requires.come).out
+
+pub fail-requires-clause-may : goal.fail-requires-clause-may
+fail-requires-clause-may g c =
+    home_of g.D.Disk.tells g.D.Disk.seen g.D.Disk.now g.D.Disk.leaves g.D.Disk.faults c.args.engine.now c.put_late.new.engine c.put_late.new.lent c.put_late.ensures.beside
+    (home_then g.D.Disk.tells g.D.Disk.seen g.D.Disk.now g.D.Disk.leaves g.D.Disk.faults c.args.engine.now.first_rowset c.args.engine.now.first_file c.args.most c.args.engine.now.store c.args.lent c.put_late.new.lent _ (its_most g.D.Disk.tells g.D.Disk.seen g.D.Disk.now g.D.Disk.leaves g.D.Disk.faults c.args.by c.args.bound c.args.most c.args.lent _ c.args.engine.now c.requires.come)
+    (may_come_home g.D.Disk.tells g.D.Disk.seen g.D.Disk.now g.D.Disk.leaves g.D.Disk.faults c.args.by c.args.bound c.args.most c.args.lent _ c.args.engine.now c.requires.come) c.put_late.ensures.added)
+
+pub fail-requires-clause-rose : goal.fail-requires-clause-rose
+fail-requires-clause-rose g c = λ is.
+    let faults = g.D.Disk.faults in
+    let home = may_come_home g.D.Disk.tells g.D.Disk.seen g.D.Disk.now g.D.Disk.leaves g.D.Disk.faults c.args.by c.args.bound c.args.most c.args.lent _ c.args.engine.now c.requires.come in
+    let rose = c.put_late.ensures.added.rose (c.in-Err.is ∙ ap Err is) in
+    subst (λ s. Rose (faults s.known) (faults c.put_late.new.lent.device)) (sym (ap (λ v. v.store) c.put_late.ensures.beside)) (rose_after (faults c.args.engine.now.store.known) (faults c.args.lent.device) (faults c.put_late.new.lent.device) home.faults_rise rose)
+
+-- what is handed in
+pub end_home-requires-clause-may : goal.end_home-requires-clause-may
+end_home-requires-clause-may g c =
+    let by = c.args.by in
+    let e0 = c.args.engine.now in
+    let e1 = c.put_late.new.engine in
+    let e2 = c.take_home.new.engine in
+    let beside = c.put_late.ensures.beside in
+    let outs = c.args.outputs in
+    let done = c.in-Ok.done.rowsets in
+    let went = c.args.lent in
+    let came = c.put_late.new.lent in
+    let put = subst (λ v. IsPutIn g.D.Disk.tells g.D.Disk.seen g.D.Disk.now g.D.Disk.leaves by c.args.bound went came outs.rowsets done e0 v) beside c.in-Ok.ensures.put in
+    let late = c.late_law.ensures in
+    let may = subst (λ v. MayHandIn g.D.Disk.tells g.D.Disk.seen g.D.Disk.now g.D.Disk.leaves v by c.requires.come.away.job.want done) (sym (home_both e0 e1 e2 came c.take_home.ensures.home beside))
+    (may_hand_in g.D.Disk.tells g.D.Disk.seen g.D.Disk.now g.D.Disk.leaves g.D.Disk.faults by c.args.bound c.args.most went came outs done _ e0 e1.upkeep c.requires.come c.standing.ensures.side c.put_late.ensures.added put c.is_within.ensures late.outputs late.once c.rise_law.ensures c.written_law.ensures.same
+    c.outputs_pass_law.ensures c.written_law.ensures.pass late.passes c.passing_law.ensures.passes c.passing_law.ensures.back c.again_law.ensures.others c.behind_law.ensures c.fewer_law.ensures.named c.again_law.ensures.named c.stand_law.ensures c.again_law.ensures.stand) in
+    (c.requires.come.away.job.want, may)
+
+pub end_home-requires-clause-calm : goal.end_home-requires-clause-calm
+end_home-requires-clause-calm g c =
+    let e1 = c.put_late.new.engine in
+    let home = c.take_home.ensures.home in
+    let beside = c.put_late.ensures.beside in
+    record {
+      goes = ap (λ v. v.tablet.core.stopped) home ∙ ap (λ v. v.tablet.core.stopped) beside ∙ c.requires.goes;
+      calm = ap (λ v. v.tablet.core.aloft) home ∙ ap (λ v. v.tablet.core.aloft) beside ∙ c.requires.calm;
+      settled = (
+        ap (λ v. v.log.queued) home ∙ ap (λ v. v.log.queued) beside ∙ c.requires.settled.0,
+        ap (λ v. v.log.out) home ∙ ap (λ v. v.log.out) beside ∙ c.requires.settled.1,
+        ap (λ v. v.log.holder) home ∙ ap (λ v. v.log.holder) beside ∙ c.requires.settled.2,
+      );
+      home = ap (λ v. v.store.holder) home;
+    }
+
+pub returns-in-Ok-clause-visit : goal.returns-in-Ok-clause-visit
+returns-in-Ok-clause-visit g c =
+    let e1 = c.put_late.new.engine in
+    let e2 = c.take_home.new.engine in
+    visit_then c.args.by c.args.engine.now e1 c.end_home.new.engine c.put_late.ensures.quiet (visits_then c.args.by e1 e2 c.end_home.new.engine c.take_home.ensures.visit (ap (λ v. v.tablet.core.trail) c.take_home.ensures.home) c.end_home.ensures.visit)
+
+pub returns-in-Ok-clause-still : goal.returns-in-Ok-clause-still
+returns-in-Ok-clause-still g c =
+    let e0 = c.args.engine.now in
+    let e2 = c.take_home.new.engine in
+    let same = ap (λ v. v.tablet) c.take_home.ensures.home ∙ ap (λ v. v.tablet) c.put_late.ensures.beside in
+    stands_then c.args.by e0 e2 c.end_home.new.engine (ap (λ t. t.core.trail) same) (stands_same c.args.by e0 e2 same) c.end_home.ensures.still
+
+pub returns-in-Ok-clause-ends : goal.returns-in-Ok-clause-ends
+returns-in-Ok-clause-ends g c = λ job has.
+    let by = c.args.by in
+    let e0 = c.args.engine.now in
+    let e1 = c.put_late.new.engine in
+    let e2 = c.take_home.new.engine in
+    let beside = c.put_late.ensures.beside in
+    let outs = c.args.outputs in
+    let done = c.in-Ok.done.rowsets in
+    let went = c.args.lent in
+    let came = c.put_late.new.lent in
+    let put = subst (λ v. IsPutIn g.D.Disk.tells g.D.Disk.seen g.D.Disk.now g.D.Disk.leaves by c.args.bound went came outs.rowsets done e0 v) beside c.in-Ok.ensures.put in
+    let late = c.late_law.ensures in
+    let may = subst (λ v. MayHandIn g.D.Disk.tells g.D.Disk.seen g.D.Disk.now g.D.Disk.leaves v by c.requires.come.away.job.want done) (sym (home_both e0 e1 e2 came c.take_home.ensures.home beside))
+    (may_hand_in g.D.Disk.tells g.D.Disk.seen g.D.Disk.now g.D.Disk.leaves g.D.Disk.faults by c.args.bound c.args.most went came outs done _ e0 e1.upkeep c.requires.come c.standing.ensures.side c.put_late.ensures.added put c.is_within.ensures late.outputs late.once c.rise_law.ensures c.written_law.ensures.same
+    c.outputs_pass_law.ensures c.written_law.ensures.pass late.passes c.passing_law.ensures.passes c.passing_law.ensures.back c.again_law.ensures.others c.behind_law.ensures c.fewer_law.ensures.named c.again_law.ensures.named c.stand_law.ensures c.again_law.ensures.stand) in
+    let own = some_is c.requires.come.away.job job (sym c.requires.come.away.own ∙ has) in
+    subst (λ j. EndsAs c.args.by j.want e0 c.end_home.new.engine c.end_home.result) own
+    (ends_then c.args.by c.requires.come.away.job.want e0 e2 c.end_home.new.engine c.end_home.result (subst (λ u. KeepsAsks c.args.by e0.upkeep u) (sym (ap (λ v. v.upkeep) c.take_home.ensures.home)) c.put_late.ensures.quiet.asks) (c.end_home.ensures.ends c.requires.come.away.job.want may))
+
+pub returns-in-Err-clause-visit : goal.returns-in-Err-clause-visit
+returns-in-Err-clause-visit g c = visit_then c.args.by c.args.engine.now c.put_late.new.engine c.fail.new.engine c.put_late.ensures.quiet c.fail.ensures.visit
+
+pub returns-in-Err-clause-still : goal.returns-in-Err-clause-still
+returns-in-Err-clause-still g c =
+    let same = c.put_late.ensures.quiet.tablet in
+    stands_then c.args.by c.args.engine.now c.put_late.new.engine c.fail.new.engine (ap (λ t. t.core.trail) same) (stands_same c.args.by c.args.engine.now c.put_late.new.engine same) c.fail.ensures.still
+
+pub returns-in-Err-clause-ends : goal.returns-in-Err-clause-ends
+returns-in-Err-clause-ends g c = λ job has.
+    ends_failed c.args.by job.want c.args.engine.now c.fail.new.engine c.fail.result
+    (no_device c.args.by c.fail.new.engine (ap (λ l. l.holder) (c.fail.ensures.home.0 ∙ c.put_late.ensures.quiet.log) ∙ c.requires.settled.2) c.fail.ensures.home.1) c.fail.ensures.stopped

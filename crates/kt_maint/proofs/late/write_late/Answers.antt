@@ -1,0 +1,15 @@
+use Rattle.std.proofs.Common.{refl}
+use Rattle.std.proofs.lemmas.Result.{IfOk-weaker}
+use Rattle.kt_maint.proofs.Returns.{have_late}
+use Rattle.kt_maint.proofs.late.write_late.Goals as goal
+
+pub returns-clause-added : goal.returns-clause-added
+returns-clause-added g c =
+    let e = c.write_again-written.ensures in
+    record { meta = refl; few_files = e.few; rowset = refl; up = e.up; left = e.left; faults_rise = e.faults; rose = e.fault }
+
+pub returns-clause-files : goal.returns-clause-files
+returns-clause-files g c =
+    let e = c.write_again-written.ensures in
+    have_late g.D.Disk.tells g.D.Disk.seen g.D.Disk.now g.D.Disk.leaves c.args.lent.now _ c.args.late.now.rowsets c.write_again-written.result e.again e.numbered
+    (IfOk-weaker c.write_again-written.result _ _ (λ done holds told. holds told c.requires.whole) e.holds) e.stable

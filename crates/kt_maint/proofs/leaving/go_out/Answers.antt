@@ -1,0 +1,177 @@
+use Rattle.std.proofs.Common.{◌≡◌, Err, None, Some, inl, refl, sym, ap, subst, ◌∙◌}
+use Rattle.kt_engine.specs.declared.upkeep.Stage.TheVariants as stage
+use Rattle.kt_maint.specs.Runs.{MayAbandon}
+use Rattle.kt_maint.proofs.GoingOut.{WentOut, out_at, leaves_as, out_compacts, is_away, read_abandon, went_quiet}
+use Rattle.kt_maint.proofs.leaving.go_out.Goals as goal
+
+none_some : {A : Type 0} (x : A) → None ≡ Some x → ⊥
+none_some x h = cc
+
+pub unreachable-requires-in-Err-Out : goal.unreachable-requires-in-Err-Out
+unreachable-requires-in-Err-Out g c =
+    let out = (c.store_out.ensures.out c.in-Err-Out.field-0-0).0 (c.in-Err-Out.is ∙ ap Err c.in-Err-Out.field-0-is) in
+    none_some c.in-Err-Out.field-0-0 (sym (ap (λ v. v.store.holder) c.read.ensures.beside ∙ c.requires.calm.home) ∙ out.1)
+
+pub job_leave-requires-clause-free : goal.job_leave-requires-clause-free
+job_leave-requires-clause-free g c =
+    let by = c.args.by in
+    let a = c.args.engine.now in
+    let b = c.read.new.engine in
+    let d = c.store_out.new.self in
+    let input = c.in_ok-input.input in
+    let lent = c.in-Ok.lent in
+    let e = c.in-Ok.ensures in
+    let went : WentOut g.D.Disk.tells g.D.Disk.seen g.D.Disk.now g.D.Disk.leaves g.D.Disk.faults by c.requires.begun.0 a b d input lent = record {
+      side = c.standing.ensures.side;
+      ready = c.requires.calm;
+      begins = c.requires.begun.1;
+      read = c.in_ok-input.ensures.read;
+      went = e.lent.2;
+      meta = e.meta;
+      upkeep = e.upkeep (inl e.meta);
+      device = e.lent.1;
+      numbers = e.numbers;
+      is_whole = e.whole;
+      near = e.near refl;
+      near_files = e.near_files refl;
+    } in
+    (out_at g.D.Disk.tells g.D.Disk.seen g.D.Disk.now g.D.Disk.leaves g.D.Disk.faults by c.requires.begun.0 a b d input lent went).free
+
+pub job_leave-requires-clause-stage : goal.job_leave-requires-clause-stage
+job_leave-requires-clause-stage g c =
+    let by = c.args.by in
+    let a = c.args.engine.now in
+    let b = c.read.new.engine in
+    let d = c.store_out.new.self in
+    let input = c.in_ok-input.input in
+    let lent = c.in-Ok.lent in
+    let e = c.in-Ok.ensures in
+    let went : WentOut g.D.Disk.tells g.D.Disk.seen g.D.Disk.now g.D.Disk.leaves g.D.Disk.faults by c.requires.begun.0 a b d input lent = record {
+      side = c.standing.ensures.side;
+      ready = c.requires.calm;
+      begins = c.requires.begun.1;
+      read = c.in_ok-input.ensures.read;
+      went = e.lent.2;
+      meta = e.meta;
+      upkeep = e.upkeep (inl e.meta);
+      device = e.lent.1;
+      numbers = e.numbers;
+      is_whole = e.whole;
+      near = e.near refl;
+      near_files = e.near_files refl;
+    } in
+    let at = out_at g.D.Disk.tells g.D.Disk.seen g.D.Disk.now g.D.Disk.leaves g.D.Disk.faults by c.requires.begun.0 a b d input lent went in
+    (at.job, record { has = at.has; at = at.at }, out_compacts g.D.Disk.tells g.D.Disk.seen g.D.Disk.now g.D.Disk.leaves g.D.Disk.faults by c.requires.begun.0 a b d input lent went, at.output, at.takes, leaves_as g.D.Disk.tells g.D.Disk.seen g.D.Disk.now g.D.Disk.leaves g.D.Disk.faults by c.requires.begun.0 a b d input lent went)
+
+pub job_leave-requires-clause-as_many : goal.job_leave-requires-clause-as_many
+job_leave-requires-clause-as_many g c =
+    let by = c.args.by in
+    let a = c.args.engine.now in
+    let b = c.read.new.engine in
+    let d = c.store_out.new.self in
+    let input = c.in_ok-input.input in
+    let lent = c.in-Ok.lent in
+    let e = c.in-Ok.ensures in
+    let went : WentOut g.D.Disk.tells g.D.Disk.seen g.D.Disk.now g.D.Disk.leaves g.D.Disk.faults by c.requires.begun.0 a b d input lent = record {
+      side = c.standing.ensures.side;
+      ready = c.requires.calm;
+      begins = c.requires.begun.1;
+      read = c.in_ok-input.ensures.read;
+      went = e.lent.2;
+      meta = e.meta;
+      upkeep = e.upkeep (inl e.meta);
+      device = e.lent.1;
+      numbers = e.numbers;
+      is_whole = e.whole;
+      near = e.near refl;
+      near_files = e.near_files refl;
+    } in
+    (out_at g.D.Disk.tells g.D.Disk.seen g.D.Disk.now g.D.Disk.leaves g.D.Disk.faults by c.requires.begun.0 a b d input lent went).as_many
+
+pub job_leave-requires-clause-begun : goal.job_leave-requires-clause-begun
+job_leave-requires-clause-begun g c =
+    let by = c.args.by in
+    let a = c.args.engine.now in
+    let b = c.read.new.engine in
+    let d = c.store_out.new.self in
+    let input = c.in_ok-input.input in
+    let lent = c.in-Ok.lent in
+    let e = c.in-Ok.ensures in
+    let went : WentOut g.D.Disk.tells g.D.Disk.seen g.D.Disk.now g.D.Disk.leaves g.D.Disk.faults by c.requires.begun.0 a b d input lent = record {
+      side = c.standing.ensures.side;
+      ready = c.requires.calm;
+      begins = c.requires.begun.1;
+      read = c.in_ok-input.ensures.read;
+      went = e.lent.2;
+      meta = e.meta;
+      upkeep = e.upkeep (inl e.meta);
+      device = e.lent.1;
+      numbers = e.numbers;
+      is_whole = e.whole;
+      near = e.near refl;
+      near_files = e.near_files refl;
+    } in
+    (out_at g.D.Disk.tells g.D.Disk.seen g.D.Disk.now g.D.Disk.leaves g.D.Disk.faults by c.requires.begun.0 a b d input lent went).begun
+
+pub job_leave-requires-clause-out : goal.job_leave-requires-clause-out
+job_leave-requires-clause-out g c = let e = c.in-Ok.ensures in (ap (λ v. v.store.holder) e.lent.2, ap (λ v. v.store.lent) e.lent.2 ∙ e.meta)
+
+pub job_leave-requires-clause-calm : goal.job_leave-requires-clause-calm
+job_leave-requires-clause-calm g c = ap (λ v. v.tablet.core.aloft) c.in-Ok.ensures.lent.2 ∙ ap (λ v. v.tablet.core.aloft) c.read.ensures.beside ∙ c.requires.calm.calm
+
+pub returns-in-Ok-clause-quiet : goal.returns-in-Ok-clause-quiet
+returns-in-Ok-clause-quiet g c =
+    let by = c.args.by in
+    let a = c.args.engine.now in
+    let b = c.read.new.engine in
+    let d = c.store_out.new.self in
+    let input = c.in_ok-input.input in
+    let lent = c.in-Ok.lent in
+    let e = c.in-Ok.ensures in
+    let went : WentOut g.D.Disk.tells g.D.Disk.seen g.D.Disk.now g.D.Disk.leaves g.D.Disk.faults by c.requires.begun.0 a b d input lent = record {
+      side = c.standing.ensures.side;
+      ready = c.requires.calm;
+      begins = c.requires.begun.1;
+      read = c.in_ok-input.ensures.read;
+      went = e.lent.2;
+      meta = e.meta;
+      upkeep = e.upkeep (inl e.meta);
+      device = e.lent.1;
+      numbers = e.numbers;
+      is_whole = e.whole;
+      near = e.near refl;
+      near_files = e.near_files refl;
+    } in
+    let at = out_at g.D.Disk.tells g.D.Disk.seen g.D.Disk.now g.D.Disk.leaves g.D.Disk.faults by c.requires.begun.0 a b d input lent went in
+    went_quiet by a b d c.job_leave.new.self c.read.ensures.quiet c.store_out.ensures.visit e.lent.2 (e.upkeep (inl e.meta)) c.job_leave.ensures.visit (record at.job { stage = stage.Outside }) (c.job_leave.ensures.left at.job at.has)
+
+pub returns-in-Ok-clause-away : goal.returns-in-Ok-clause-away
+returns-in-Ok-clause-away g c = λ taken begins.
+    let by = c.args.by in
+    let a = c.args.engine.now in
+    let b = c.read.new.engine in
+    let d = c.store_out.new.self in
+    let input = c.in_ok-input.input in
+    let lent = c.in-Ok.lent in
+    let e = c.in-Ok.ensures in
+    let went : WentOut g.D.Disk.tells g.D.Disk.seen g.D.Disk.now g.D.Disk.leaves g.D.Disk.faults by taken a b d input lent = record {
+      side = c.standing.ensures.side;
+      ready = c.requires.calm;
+      begins = begins;
+      read = c.in_ok-input.ensures.read;
+      went = e.lent.2;
+      meta = e.meta;
+      upkeep = e.upkeep (inl e.meta);
+      device = e.lent.1;
+      numbers = e.numbers;
+      is_whole = e.whole;
+      near = e.near refl;
+      near_files = e.near_files refl;
+    } in
+    let at = out_at g.D.Disk.tells g.D.Disk.seen g.D.Disk.now g.D.Disk.leaves g.D.Disk.faults by taken a b d input lent went in
+    let quiet = went_quiet by a b d c.job_leave.new.self c.read.ensures.quiet c.store_out.ensures.visit e.lent.2 (e.upkeep (inl e.meta)) c.job_leave.ensures.visit (record at.job { stage = stage.Outside }) (c.job_leave.ensures.left at.job at.has) in
+    is_away g.D.Disk.tells g.D.Disk.seen g.D.Disk.now g.D.Disk.leaves g.D.Disk.faults by taken a b d input lent went c.job_leave.new.self c.end_of_turn-most.result c.end_of_turn-most.ensures.few quiet.visit (c.job_leave.ensures.left at.job at.has)
+
+pub returns-in-Err-Memory-clause-memory : goal.returns-in-Err-Memory-clause-memory
+returns-in-Err-Memory-clause-memory g c = λ err.
+    subst (λ v. MayAbandon v c.args.by) (sym c.in-Err-Memory.ensures.stays) (read_abandon g.D.Disk.tells c.args.by c.args.engine.now c.read.new.engine c.in_ok-input.input c.in_ok-input.ensures.read c.requires.begun.1.at.free)
