@@ -19,5 +19,6 @@ pub mod Lists
 pub mod Joining
 pub mod Open
 pub mod Maintained
+pub mod Rests
 pub mod Closing
 mod Points

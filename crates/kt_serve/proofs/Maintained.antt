@@ -1,5 +1,5 @@
 -- The visits of a maintenance command.
-use Rattle.std.proofs.Common.{◌≡◌, ℕ, ◌+◌, List, [], Option, Some, None, Result, Ok, Err, refl, sym, ap, ◌∙◌, subst}
+use Rattle.std.proofs.Common.{◌≡◌, ℕ, ◌+◌, List, Option, Some, Result, Ok, Err, refl, sym, ap, ◌∙◌, subst}
 use Rattle.std.specs.Prelude.{◌==◌, IfOk, OnOk, OnErr}
 use Rattle.std.specs.List.{filter}
 use Rattle.kt_base.specs.declared.chore.Chore.{Chore}
@@ -18,9 +18,9 @@ use Rattle.kt_engine.specs.Calls.{HasNoDevice, HasDone, StandsStill, SeesOthers,
 use Rattle.kt_engine.specs.Engines.{EngineView}
 use Rattle.kt_engine.specs.Jobs.{UpkeepView, UpkeepsView, upkeep_at}
 use Rattle.kt_engine.specs.Visits.{PartView, part_in, session_of, root_of}
-use Rattle.kt_serve.specs.Maintained.{StoreRests, HasDoneWith, KeepsUpkeep}
+use Rattle.kt_serve.specs.Maintained.{HasDoneWith, KeepsUpkeep}
 use Rattle.kt_serve.specs.Answered.{IsOpen, IsAnswered}
-use Rattle.kt_serve.specs.Sessions.{HasRoot, SameRoot, IsFree, IsCommand, HasNoLog, OnRoot, AnswersOne, AfterCommand, IsGoing}
+use Rattle.kt_serve.specs.Sessions.{IsFree, IsCommand, HasNoLog, OnRoot, AnswersOne, AfterCommand, IsGoing}
 use Rattle.kt_serve.proofs.Lines.{follows_quiet, is_mine}
 use Rattle.kt_serve.proofs.Flights.{none_flies}
 use Rattle.kt_serve.proofs.Stills.{going_after}
@@ -58,12 +58,6 @@ module _ {L D C : Type 0} where
       (ap (λ v. v.log.holder) e) (ap (λ v. v.log.out) e) (λ k. is_mine n k i) (λ first content. refl)
 
   -- ---- what maintenance leaves
-
-  pub no_device : (told : Option (PartView L D C)) (i : ℕ) → StoreRests told → IsFree told i → HasNoDevice told
-  no_device told i rests f = record { part = f.part; is = f.is; log = f.home; store = rests f.part.root (record { part = f.part; is = f.is; root_is = refl }) }
-
-  pub idle_device : (told : Option (PartView L D C)) → StoreRests told → HasNoLog told → HasNoDevice told
-  idle_device told rests h = record { part = h.part; is = h.is; log = h.home; store = rests h.part.root (record { part = h.part; is = h.is; root_is = refl }) }
 
   pub device_log : (told : Option (PartView L D C)) → HasNoDevice told → HasNoLog told
   device_log told d = record { part = d.part; is = d.is; home = d.log }
@@ -139,11 +133,3 @@ module _ {L D C : Type 0} where
       → IfOk r (λ q. (q ≡ reply.Stopped → ⊥) → OnRoot told (λ root. IsAnswered root s i q ys))
   answered_chore told told' xs ys s i (Ok q) after free = λ ne. is_answered told told' xs ys s i q ne after (free ne)
   answered_chore told told' xs ys s i (Err lost) after free = tt
-
-  -- the store rests as it did
-  pub rests_after : (a b : Option (PartView L D C)) (i : ℕ) → IsFree a i → StoreRests a → SameRoot a b → StoreRests b
-  rests_after a b i f rests same root h =
-      let old : HasRoot f.part.root a = record { part = f.part; is = f.is; root_is = refl } in
-      let new = same f.part.root old in
-      let both : root ≡ f.part.root = sym h.root_is ∙ ap (λ (q : PartView L D C). q.root) (some_is h.part new.part (sym h.is ∙ new.is)) ∙ new.root_is in
-      ap (λ r. r.turn) both ∙ rests f.part.root old

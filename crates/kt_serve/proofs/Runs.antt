@@ -19,8 +19,9 @@ use Rattle.kt_seatlock.specs.Passes.{number, seen, part, joined, given, MayEnter
 use Rattle.kt_seatlock.specs.declared.shared.Shared.{Ghosts}
 use Rattle.kt_seatlock.specs.declared.lock.SeatLock.{SeatLock}
 use Rattle.kt_engine.specs.Engines.{EngineView}
-use Rattle.kt_engine.specs.Visits.{Root, root_of, PartView, part_in, session_of, out_of}
+use Rattle.kt_engine.specs.Visits.{Root, root_of, PartView, part_in, session_of, out_of, lent_of}
 use Rattle.kt_serve.specs.declared.session.SessionEnd.{SessionEnd}
+use Rattle.kt_serve.specs.Maintained.{StoreRests}
 use Rattle.kt_serve.specs.Sessions.{Found, TellsOwn, CanRun, IsFresh, IsQuiet, IsStill, HasNoLog, MayRun, told_by, has_stop}
 use Rattle.kt_serve.specs.declared.places.Place.{Place}
 use Rattle.kt_serve.specs.Runs.{HasEnded, HasRunTo, PlaceHasRun, AllEnded, reply_of_end}
@@ -163,11 +164,15 @@ module _ {L D C : Type 0} {g : Ghosts (EngineView L D C) Event (PartView L D C)}
       subst (λ (x : Place (EngineView L D C) Event (PartView L D C) g). MayEnter lock x.pass × (joined x.pass ≡ []) × (given x.pass ≡ 0)) (some_is r.0 q (sym r.1 ∙ e))
       ((back.0.0 ∙ was.0.0, back.2), back.1.0 ∙ was.1, back.1.1 ∙ was.2)
 
--- ---- the log is at home again
+-- ---- both devices are at home again
 
 no_holder : (h : Option ℕ) (out : List Entry) → ((k : ℕ) → out_of h out k ≡ None) → h ≡ None
 no_holder None out each = refl
 no_holder (Some by) out each = let e : Some out ≡ None = sym (ap (λ b. cond b (Some out) None) (eq-eqb by by refl)) ∙ each by in absurd (cc)
+
+nobody_has : {J : Type 0} (h : Option ℕ) (known : J) → ((k : ℕ) → lent_of h known k ≡ None) → h ≡ None
+nobody_has None known each = refl
+nobody_has (Some by) known each = let e : Some known ≡ None = sym (ap (λ b. cond b (Some known) None) (eq-eqb by by refl)) ∙ each by in absurd (cc)
 
 module _ {L D C : Type 0} where
   same_out : (x y : EngineView L D C) (k : ℕ) → Some (part_in y k) ≡ Some (part_in x k) → x.log.holder ≡ None → out_of y.log.holder y.log.out k ≡ None
@@ -176,23 +181,42 @@ module _ {L D C : Type 0} where
   own_out : (o : Option (PartView L D C)) (y : EngineView L D C) (n k : ℕ) → o ≡ Some (part_in y n) → n ≡ k → HasNoLog o → out_of y.log.holder y.log.out k ≡ None
   own_out o y n k is me h = ap (out_of y.log.holder y.log.out) (sym me) ∙ ap (λ (p : PartView L D C). p.pass.out) (some_is (part_in y n) h.part (sym is ∙ h.is)) ∙ h.home
 
+  same_lent : (x y : EngineView L D C) (k : ℕ) → Some (part_in y k) ≡ Some (part_in x k) → x.store.holder ≡ None → lent_of y.store.holder y.store k ≡ None
+  same_lent x y k e home = ap (λ (p : PartView L D C). p.turn) (some_is (part_in y k) (part_in x k) e) ∙ ap (λ h. lent_of h x.store k) home
+
+  own_lent : (o : Option (PartView L D C)) (y : EngineView L D C) (n k : ℕ) → o ≡ Some (part_in y n) → n ≡ k → StoreRests o → lent_of y.store.holder y.store k ≡ None
+  own_lent o y n k is me h = ap (lent_of y.store.holder y.store) (sym me) ∙ ap (λ (p : PartView L D C). p.turn) (some_is (part_in y n) h.part (sym is ∙ h.is)) ∙ h.home
+
 module _ {L D C : Type 0} {g : Ghosts (EngineView L D C) Event (PartView L D C)} where
-  -- no pass has the log at its end, and none that was not given ever had it
-  pub home_again : (Came : ℕ → ℕ → Reply → Type 0) (x y : EngineView L D C) (plan : List (List Command)) (old new : List (Place (EngineView L D C) Event (PartView L D C) g)) → x.log.holder ≡ None
+  -- what holds of the first pass, of each that has run and of each that was never given holds of all
+  of_each : (Came : ℕ → ℕ → Reply → Type 0) (plan : List (List Command)) (old new : List (Place (EngineView L D C) Event (PartView L D C) g)) (P : ℕ → Type 0) → P 0 → ((k : ℕ) → length old < k → P k)
       → ((j : ℕ) (p : Place (EngineView L D C) Event (PartView L D C) g) → slice_get old j ≡ Some p → number p.pass ≡ suc j)
       → ((j : ℕ) (p : Place (EngineView L D C) Event (PartView L D C) g) → slice_get old j ≡ Some p → (q : Place (EngineView L D C) Event (PartView L D C) g) × (slice_get new j ≡ Some q) × PlaceHasRun Came plan j p q)
-      → ((j : ℕ) (q : Place (EngineView L D C) Event (PartView L D C) g) → slice_get new j ≡ Some q → part q.pass ≡ Some (part_in y (number q.pass)))
-      → Some (part_in y 0) ≡ Some (part_in x 0) → ((k : ℕ) → length old < k → Some (part_in y k) ≡ Some (part_in x k)) → y.log.holder ≡ None
-  home_again Came x y plan old new home begun run kept first later = no_holder y.log.holder y.log.out each
-    where
-      each : (k : ℕ) → out_of y.log.holder y.log.out k ≡ None
-      each zero = same_out x y zero first home
-      each (suc j) = elim (slice_get_cases old j).1 as (λ _. out_of y.log.holder y.log.out (suc j) ≡ None) [
-        | inl within ↦
-            let q = run j within.0 within.2 in
-            own_out (part q.0.pass) y (number q.0.pass) (suc j) (kept j q.0 q.1) (q.2.back.0.1 ∙ begun j within.0 within.2) q.2.home
-        | inr past ↦ same_out x y (suc j) (later (suc j) (omega (arith, past.0))) home
-      ]
+      → ((j : ℕ) (p q : Place (EngineView L D C) Event (PartView L D C) g) → slice_get new j ≡ Some q → number q.pass ≡ suc j → PlaceHasRun Came plan j p q → P (suc j)) → (k : ℕ) → P k
+  of_each Came plan old new P first later begun run own zero = first
+  of_each Came plan old new P first later begun run own (suc j) = elim (slice_get_cases old j).1 as (λ _. P (suc j)) [
+    | inl within ↦ let q = run j within.0 within.2 in own j within.0 q.0 q.1 (q.2.back.0.1 ∙ begun j within.0 within.2) q.2
+    | inr past ↦ later (suc j) (omega (arith, past.0))
+  ]
+
+  module _ (Came : ℕ → ℕ → Reply → Type 0) (x y : EngineView L D C) (plan : List (List Command)) (old new : List (Place (EngineView L D C) Event (PartView L D C) g))
+      (begun : (j : ℕ) (p : Place (EngineView L D C) Event (PartView L D C) g) → slice_get old j ≡ Some p → number p.pass ≡ suc j)
+      (run : (j : ℕ) (p : Place (EngineView L D C) Event (PartView L D C) g) → slice_get old j ≡ Some p → (q : Place (EngineView L D C) Event (PartView L D C) g) × (slice_get new j ≡ Some q) × PlaceHasRun Came plan j p q)
+      (kept : (j : ℕ) (q : Place (EngineView L D C) Event (PartView L D C) g) → slice_get new j ≡ Some q → part q.pass ≡ Some (part_in y (number q.pass)))
+      (first : Some (part_in y 0) ≡ Some (part_in x 0)) (later : (k : ℕ) → length old < k → Some (part_in y k) ≡ Some (part_in x k)) where
+    -- no pass has the log at its end, and none that was not given ever had it
+    pub home_again : x.log.holder ≡ None → y.log.holder ≡ None
+    home_again home =
+        no_holder y.log.holder y.log.out
+        (of_each Came plan old new (λ k. out_of y.log.holder y.log.out k ≡ None) (same_out x y 0 first home) (λ k past. same_out x y k (later k past) home) begun run
+        (λ j p q at me has. own_out (part q.pass) y (number q.pass) (suc j) (kept j q at) me has.home))
+
+    -- nor the store
+    pub store_again : x.store.holder ≡ None → y.store.holder ≡ None
+    store_again home =
+        nobody_has y.store.holder y.store
+        (of_each Came plan old new (λ k. lent_of y.store.holder y.store k ≡ None) (same_lent x y 0 first home) (λ k past. same_lent x y k (later k past) home) begun run
+        (λ j p q at me has. own_lent (part q.pass) y (number q.pass) (suc j) (kept j q at) me has.store))
 
 none_alike : {A B : Type 0} (xs : List A) (ys : List B) (s : ℕ) → length xs ≡ length ys → nth ys s ≡ None → nth xs s ≡ None
 none_alike xs ys zero count none = refl

@@ -1,13 +1,14 @@
 -- What a pass knows of maintenance.
 use Rattle.std.specs.Prelude.{◌≡◌, Option, Some, None}
 use Rattle.kt_base.specs.declared.chore.Chore.{Chore}
-use Rattle.kt_engine.specs.Visits.{Root, PartView}
+use Rattle.kt_engine.specs.Visits.{PartView}
 use Rattle.kt_engine.specs.Calls.{IsThrough}
-use Rattle.kt_serve.specs.Sessions.{OnRoot}
 
--- no pass has the store out between two visits
-abbrev pub StoreRests : {L D C : Type 0} → Option (PartView L D C) → Type 0
-StoreRests {L} {D} {C} told = OnRoot told (λ (root : Root L D C). root.turn ≡ None)
+-- The pass does not have the store out.
+pub record StoreRests {L D C : Type 0} (told : Option (PartView L D C)) : Type 0 where
+  pub part : PartView L D C
+  pub is : told ≡ Some part
+  pub home : part.turn ≡ None
 
 -- The last round of the pass was of this chore, and nothing of it is left to do.
 pub record HasDoneWith {L D C : Type 0} (chore : Chore) (told : Option (PartView L D C)) : Type 0 where

@@ -11,6 +11,7 @@ use Rattle.kt_engine.specs.Visits.{Root, PartView}
 use Rattle.kt_serve.specs.declared.places.Place.{Place}
 use Rattle.kt_serve.specs.declared.log.Halt.TheVariants as halt
 use Rattle.kt_serve.specs.declared.session.SessionEnd.{SessionEnd}
+use Rattle.kt_serve.specs.Maintained.{StoreRests}
 use Rattle.kt_serve.specs.Sessions.{TellsOwn, SameRoot, OnRoot, HasNoLog, HasLeft, CanRun, has_stop}
 use Rattle.kt_serve.specs.Scans.{TellsBut}
 
@@ -30,11 +31,12 @@ pub record HasRunTo {L D C : Type 0} (Came : ℕ → ℕ → Reply → Type 0) (
   pub root : SameRoot old new
   pub ended : OnRoot old (λ root. HasEnded Came root s commands lines end)
 
--- the session or the worker of this place has run to its end and does not run any more, and its pass is outside again, without the log
+-- the session or the worker of this place has run to its end and does not run any more, and its pass is outside again, with neither device
 pub record PlaceHasRun {L D C : Type 0} {g : Ghosts (EngineView L D C) Event (PartView L D C)} (Came : ℕ → ℕ → Reply → Type 0) (plan : List (List Command)) (at : ℕ) (old new : Place (EngineView L D C) Event (PartView L D C) g) : Type 0 where
   pub back : IsBack old.pass new.pass
   pub left : HasLeft (part new.pass)
   pub home : HasNoLog (part new.pass)
+  pub store : StoreRests (part new.pass)
   pub run : (commands : List Command) → slice_get plan at ≡ Some commands → HasRunTo Came (part old.pass) (part new.pass) (number old.pass) commands (seen new.pass) new.end
 
 -- each command of each session can be run

@@ -66,6 +66,7 @@ fn answer_once<L: Disk, D: Disk + Drop, C: Clock, R: Wait>(
     requires few { index + 1 < 2 ^ 32 }
     requires done { HasDoneWith chore (part pass.old) }
     ensures pass { IsBack pass.old pass.new }
+    ensures rests { StoreRests (part pass.old) → StoreRests (part pass.new) }
     ensures upkeep { KeepsUpkeep (part pass.old) (part pass.new) }
     ensures home { HasNoLog (part pass.new) }
     ensures root { SameRoot (part pass.old) (part pass.new) }
@@ -102,6 +103,7 @@ pub fn run_chore<L: Disk, D: Disk + Drop, C: Clock, R: Wait, H: Chores<L, D, C>>
     requires command { IsCommand (part pass.old) (number pass.old) index (Command.Chore chore) }
     requires few { index + 1 < 2 ^ 32 }
     ensures pass { IsBack pass.old pass.new }
+    ensures rests { StoreRests (part pass.new) }
     ensures done { IfOk result (λ reply. reply ≢ Reply.Stopped → HasDone chore (part pass.old) (part pass.new)) }
     ensures home { HasNoLog (part pass.new) }
     ensures root { SameRoot (part pass.old) (part pass.new) }

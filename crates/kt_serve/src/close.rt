@@ -104,7 +104,7 @@ fn publish_lent<L: Disk, D: Disk + Drop, C: Clock>(
     requires ready { (m : Meta) → lent.meta ≡ Some m → MayPublish D.tells D.seen D.now D.leaves lent.device m }
     requires done { IsDone engine.old }
     requires free { engine.old.upkeep.publishing ≡ None }
-    ensures root { root_of engine.new ≡ record (root_of engine.old) { turn = None } }
+    ensures root { root_of engine.new ≡ root_of engine.old }
     ensures home { engine.new.log.holder ≡ None }
     ensures store_home { engine.new.store.holder ≡ None }
     ensures tablet { MayHalt engine.old engine.new }

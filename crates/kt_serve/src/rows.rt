@@ -3,6 +3,7 @@ ghost use Rattle.std.specs.Prelude.{◌≡◌, ◌≢◌, ◌<◌, ◌+◌, ◌^
 ghost use Rattle.kt_history.specs.declared.operation.RowOp.{RowOp};
 ghost use Rattle.kt_seatlock.specs.Passes.{number, seen, part, MayEnter, IsBack};
 ghost use Rattle.kt_engine.specs.Visits.{IsVisit};
+ghost use Rattle.kt_serve.specs.Maintained.{StoreRests};
 ghost use Rattle.kt_serve.specs.Sessions.{IsAloft, HasNoLog, IsWritten, IsGoing, SameRoot, OwnFlight, AppliedBy, AfterApply, AfterCommand, has_stop};
 
 use crate::log::{Halt, make_durable};
@@ -31,6 +32,7 @@ fn apply_next<L: Disk, D: Disk + Drop, C: Clock>(
 ) -> RowTurn
     requires { (i ts : ℕ) × (ops : List RowOp) × OwnFlight engine.old by i ts ops at × (at < length ops) }
     ensures visit { IsVisit by engine.old engine.new }
+    ensures store { engine.new.store ≡ engine.old.store }
     ensures applied { AppliedBy engine.old engine.new by result }
 {
     engine.standing();
@@ -57,6 +59,7 @@ fn apply_row<L: Disk, D: Disk + Drop, C: Clock, R: Wait>(
     requires aloft { (i ts : ℕ) × (ops : List RowOp) × IsAloft (part pass.old) (number pass.old) i ts ops at × (at < length ops) }
     requires home { HasNoLog (part pass.old) }
     ensures pass { IsBack pass.old pass.new }
+    ensures rests { StoreRests (part pass.old) → StoreRests (part pass.new) }
     ensures home { HasNoLog (part pass.new) }
     ensures applied { AfterApply (part pass.old) (part pass.new) (seen pass.old) (seen pass.new) (number pass.old) at result }
 {
@@ -80,6 +83,7 @@ fn apply_durably<L: Disk, D: Disk + Drop, C: Clock, R: Wait>(
     requires aloft { (i ts : ℕ) × (ops : List RowOp) × IsAloft (part pass.old) (number pass.old) i ts ops at × (at < length ops) }
     requires home { HasNoLog (part pass.old) }
     ensures pass { IsBack pass.old pass.new }
+    ensures rests { StoreRests (part pass.old) → StoreRests (part pass.new) }
     ensures home { HasNoLog (part pass.new) }
     ensures going { IsGoing (number pass.old) (part pass.old) (part pass.new) (seen pass.old) (seen pass.new) }
     ensures aloft { OnOk result ((i ts : ℕ) (ops : List RowOp) → IsAloft (part pass.old) (number pass.old) i ts ops at → IsAloft (part pass.new) (number pass.old) i ts ops (at + 1)) }
@@ -107,6 +111,7 @@ pub fn apply_rows<L: Disk, D: Disk + Drop, C: Clock, R: Wait>(
     requires aloft { (i ts : ℕ) × IsAloft (part pass.old) (number pass.old) i ts ops.now 0 }
     requires home { HasNoLog (part pass.old) }
     ensures pass { IsBack pass.old pass.new }
+    ensures rests { StoreRests (part pass.old) → StoreRests (part pass.new) }
     ensures home { HasNoLog (part pass.new) }
     ensures going { IsGoing (number pass.old) (part pass.old) (part pass.new) (seen pass.old) (seen pass.new) }
     ensures aloft { OnOk result ((i ts : ℕ) → IsAloft (part pass.old) (number pass.old) i ts ops.now 0 → IsAloft (part pass.new) (number pass.old) i ts ops.now (length ops.now)) }
@@ -129,6 +134,7 @@ pub fn end_write<L: Disk, D: Disk + Drop, C: Clock, R: Wait>(
     requires home { HasNoLog (part pass.old) }
     requires written { (i : ℕ) × IsWritten (part pass.old) (number pass.old) i }
     ensures pass { IsBack pass.old pass.new }
+    ensures rests { StoreRests (part pass.old) → StoreRests (part pass.new) }
     ensures home { HasNoLog (part pass.new) }
     ensures root { SameRoot (part pass.old) (part pass.new) }
     ensures reply { (i : ℕ) → IsWritten (part pass.old) (number pass.old) i → AfterCommand (part pass.old) (part pass.new) (seen pass.old) (seen pass.new) (number pass.old) i result }

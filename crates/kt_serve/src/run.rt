@@ -43,6 +43,7 @@ fn run_one<L: Disk, D: Disk + Drop, C: Clock, R: Wait, G: Gate, H: Chores<L, D, 
     requires rests { StoreRests (part place.old.pass) }
     requires runs { MayRun (part place.old.pass) (seen place.old.pass) (number place.old.pass) commands.now }
     ensures pass { IsBack place.old.pass place.new.pass }
+    ensures rests { StoreRests (part place.new.pass) }
     ensures run { HasRunTo (CameTo G.came gate.now) (part place.old.pass) (part place.new.pass) (number place.old.pass) commands.now (seen place.new.pass) place.new.end }
 {
     place.end = run_session(
@@ -73,6 +74,7 @@ fn run_and_leave<L: Disk, D: Disk + Drop, C: Clock, R: Wait, G: Gate, H: Chores<
     requires rests { StoreRests (part place.old.pass) }
     requires runs { MayRun (part place.old.pass) (seen place.old.pass) (number place.old.pass) commands.now }
     ensures pass { IsBack place.old.pass place.new.pass }
+    ensures rests { StoreRests (part place.new.pass) }
     ensures left { HasLeft (part place.new.pass) }
     ensures home { HasNoLog (part place.new.pass) }
     ensures run { HasRunTo (CameTo G.came gate.now) (part place.old.pass) (part place.new.pass) (number place.old.pass) commands.now (seen place.new.pass) place.new.end }
@@ -93,6 +95,7 @@ fn work_and_leave<L: Disk, D: Disk + Drop, C: Clock, R: Wait, H: Chores<L, D, C>
     requires rests { StoreRests (part pass.old) }
     requires idle { HasNoLog (part pass.old) }
     ensures pass { IsBack pass.old pass.new }
+    ensures rests { StoreRests (part pass.new) }
     ensures left { HasLeft (part pass.new) }
     ensures home { HasNoLog (part pass.new) }
 {

@@ -62,6 +62,7 @@ fn take_next<L: Disk, D: Disk + Drop, C: Clock, R: Wait, G: Gate, H: Chores<L, D
     requires index { index ≡ length replies.old.items + 1 }
     requires tells { OnRoot (part pass.old) (λ root. TellsOwn root (number pass.old) replies.old.items (seen pass.old)) }
     ensures pass { IsBack pass.old pass.new }
+    ensures rests { StoreRests (part pass.new) }
     ensures home { HasNoLog (part pass.new) }
     ensures root { SameRoot (part pass.old) (part pass.new) }
     ensures tells { result ≢ Err Halt.Memory → OnRoot (part pass.old) (λ root. TellsOwn root (number pass.old) replies.new.items (seen pass.new)) }
@@ -111,6 +112,7 @@ pub fn run_session<L: Disk, D: Disk + Drop, C: Clock, R: Wait, G: Gate, H: Chore
     requires few { length commands.now < 2 ^ 31 }
     requires tells { OnRoot (part pass.old) (λ root. TellsOwn root (number pass.old) [] (seen pass.old)) }
     ensures pass { IsBack pass.old pass.new }
+    ensures rests { StoreRests (part pass.new) }
     ensures home { HasNoLog (part pass.new) }
     ensures root { SameRoot (part pass.old) (part pass.new) }
     ensures tells { result.halt ≢ Some Halt.Memory → OnRoot (part pass.old) (λ root. TellsOwn root (number pass.old) result.replies (seen pass.new)) }

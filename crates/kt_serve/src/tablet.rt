@@ -62,6 +62,7 @@ impl<L: Disk, D: Disk + Drop, C: Clock> SharedTablet<L, D, C> {
         requires command { IsCommand (part pass.old) (number pass.old) index (Command.Write write.now) }
         requires write { IsWrite index write.now.ops }
         ensures pass { IsBack pass.old pass.new }
+        ensures rests { StoreRests (part pass.new) }
         ensures home { HasNoLog (part pass.new) }
         ensures root { SameRoot (part pass.old) (part pass.new) }
         ensures reply { IfOk result (λ reply. AfterCommand (part pass.old) (part pass.new) (seen pass.old) (seen pass.new) (number pass.old) index reply) }
@@ -95,6 +96,7 @@ impl<L: Disk, D: Disk + Drop, C: Clock> SharedTablet<L, D, C> {
         requires command { IsCommand (part pass.old) (number pass.old) index (Command.Mark to) }
         requires few { index + 1 < 2 ^ 32 }
         ensures pass { IsBack pass.old pass.new }
+        ensures rests { StoreRests (part pass.old) → StoreRests (part pass.new) }
         ensures home { HasNoLog (part pass.new) }
         ensures root { SameRoot (part pass.old) (part pass.new) }
         ensures reply { IfOk result (λ reply. AfterCommand (part pass.old) (part pass.new) (seen pass.old) (seen pass.new) (number pass.old) index reply) }
@@ -121,6 +123,7 @@ impl<L: Disk, D: Disk + Drop, C: Clock> SharedTablet<L, D, C> {
         requires command { IsCommand (part pass.old) (number pass.old) index (Command.Chore chore) }
         requires few { index + 1 < 2 ^ 32 }
         ensures pass { IsBack pass.old pass.new }
+        ensures rests { StoreRests (part pass.new) }
         ensures home { HasNoLog (part pass.new) }
         ensures root { SameRoot (part pass.old) (part pass.new) }
         ensures reply { IfOk result (λ reply. AfterCommand (part pass.old) (part pass.new) (seen pass.old) (seen pass.new) (number pass.old) index reply) }
@@ -136,6 +139,7 @@ impl<L: Disk, D: Disk + Drop, C: Clock> SharedTablet<L, D, C> {
     pub fn leave_run<R: Wait>(&self, rt: &R, pass: &mut Pass<Engine<L, D, C>>)
         requires enters { MayEnter self.now.lock pass.old }
         ensures pass { IsBack pass.old pass.new }
+        ensures rests { StoreRests (part pass.old) → StoreRests (part pass.new) }
         ensures still { IsStill (number pass.old) (part pass.old) (part pass.new) (seen pass.old) (seen pass.new) }
         ensures left { HasLeft (part pass.new) }
         ensures log { HasNoLog (part pass.old) → HasNoLog (part pass.new) }
@@ -166,6 +170,7 @@ impl<L: Disk, D: Disk + Drop, C: Clock> SharedTablet<L, D, C> {
         requires command { IsCommand (part pass.old) (number pass.old) index command.now }
         requires runs { CanRun index command.now }
         ensures pass { IsBack pass.old pass.new }
+        ensures rests { StoreRests (part pass.new) }
         ensures home { HasNoLog (part pass.new) }
         ensures root { SameRoot (part pass.old) (part pass.new) }
         ensures reply { IfOk result (λ reply. AfterCommand (part pass.old) (part pass.new) (seen pass.old) (seen pass.new) (number pass.old) index reply) }

@@ -38,6 +38,7 @@ pub fn begin_once<L: Disk, D: Disk + Drop, C: Clock, R: Wait>(
     requires command { IsCommand (part pass.old) (number pass.old) index (Command.Write (record { ops = draft.old.write.ops })) }
     requires write { IsWrite index draft.old.write.ops }
     ensures pass { IsBack pass.old pass.new }
+    ensures rests { StoreRests (part pass.old) → StoreRests (part pass.new) }
     ensures root { SameRoot (part pass.old) (part pass.new) }
     ensures open { OnRoot (part pass.old) (λ root. IsOpen root (number pass.old) index (seen pass.old)) }
     ensures begun { AfterBegin (part pass.old) (part pass.new) (seen pass.old) (seen pass.new) (number pass.old) index draft.old.write.ops result }
@@ -86,6 +87,7 @@ fn make_room<L: Disk, D: Disk + Drop, C: Clock, R: Wait, H: Chores<L, D, C>>(
     requires rests { StoreRests (part pass.old) }
     requires next { IsFree (part pass.old) index }
     ensures pass { IsBack pass.old pass.new }
+    ensures rests { StoreRests (part pass.new) }
     ensures next { IsFree (part pass.new) index }
     ensures going { IsGoing (number pass.old) (part pass.old) (part pass.new) (seen pass.old) (seen pass.new) }
     ensures stopped { result ≡ Err MaintNo.Stopped → has_stop (seen pass.new) ≡ true }
@@ -114,6 +116,7 @@ pub fn begin_write<L: Disk, D: Disk + Drop, C: Clock, R: Wait, H: Chores<L, D, C
     requires command { IsCommand (part pass.old) (number pass.old) index (Command.Write write.now) }
     requires write { IsWrite index write.now.ops }
     ensures pass { IsBack pass.old pass.new }
+    ensures rests { StoreRests (part pass.new) }
     ensures home { HasNoLog (part pass.new) }
     ensures open { OnOk result (OnRoot (part pass.old) (λ root. IsOpen root (number pass.old) index (seen pass.old))) }
     ensures unwritten { (ts : ℕ) (outcomes : List Outcome) → result ≢ Ok (Some (Reply.At ts outcomes)) }
@@ -154,6 +157,7 @@ pub fn mark_once<L: Disk, D: Disk + Drop, C: Clock, R: Wait>(
     requires command { IsCommand (part pass.old) (number pass.old) index (Command.Mark to) }
     requires few { index + 1 < 2 ^ 32 }
     ensures pass { IsBack pass.old pass.new }
+    ensures rests { StoreRests (part pass.old) → StoreRests (part pass.new) }
     ensures home { HasNoLog (part pass.new) }
     ensures root { SameRoot (part pass.old) (part pass.new) }
     ensures open { OnOk result (OnRoot (part pass.old) (λ root. IsOpen root (number pass.old) index (seen pass.old))) }

@@ -5,6 +5,7 @@ use Rattle.kt_serve.proofs.Open.{is_open}
 use Rattle.kt_serve.proofs.Stills.{still_tablet, still_going}
 use Rattle.kt_serve.proofs.Commands.{free_log}
 use Rattle.kt_serve.proofs.Ends.{after_stop, log_stays}
+use Rattle.kt_serve.proofs.Rests.{store_stays}
 use Rattle.kt_serve.proofs.chores.answer_once.Goals as goal
 
 pub chore_done-answered-requires-clause-may : goal.chore_done-answered-requires-clause-may
@@ -49,3 +50,12 @@ returns-in-Err-Stopped-clause-upkeep g c = keeps_upkeep _ _ c.enter-engine.resul
 
 pub returns-in-Err-Memory-clause-upkeep : goal.returns-in-Err-Memory-clause-upkeep
 returns-in-Err-Memory-clause-upkeep g c = keeps_upkeep _ _ c.enter-engine.result c.chore_done-answered.new.self _ _ c.enter-engine.ensures.part.0 c.leave.ensures.told.1 (c.leave.ensures.pass.0.1 ∙ c.enter-engine.ensures.pass.0.1) (ap (λ v. v.upkeep) (rw c.in-Err-Memory.is at c.chore_done-answered.ensures.same))
+
+pub returns-in-Ok-clause-rests : goal.returns-in-Ok-clause-rests
+returns-in-Ok-clause-rests g c = store_stays _ _ c.enter-engine.result c.chore_done-answered.new.self _ _ c.enter-engine.ensures.part.0 c.leave.ensures.told.1 (c.leave.ensures.pass.0.1 ∙ c.enter-engine.ensures.pass.0.1) (ap (λ v. v.store) c.in-Ok.ensures.answered)
+
+pub returns-in-Err-Stopped-clause-rests : goal.returns-in-Err-Stopped-clause-rests
+returns-in-Err-Stopped-clause-rests g c = store_stays _ _ c.enter-engine.result c.chore_done-answered.new.self _ _ c.enter-engine.ensures.part.0 c.leave.ensures.told.1 (c.leave.ensures.pass.0.1 ∙ c.enter-engine.ensures.pass.0.1) (ap (λ v. v.store) (rw c.in-Err-Stopped.is at c.chore_done-answered.ensures.same))
+
+pub returns-in-Err-Memory-clause-rests : goal.returns-in-Err-Memory-clause-rests
+returns-in-Err-Memory-clause-rests g c = store_stays _ _ c.enter-engine.result c.chore_done-answered.new.self _ _ c.enter-engine.ensures.part.0 c.leave.ensures.told.1 (c.leave.ensures.pass.0.1 ∙ c.enter-engine.ensures.pass.0.1) (ap (λ v. v.store) (rw c.in-Err-Memory.is at c.chore_done-answered.ensures.same))

@@ -3,6 +3,7 @@ use Rattle.std.specs.Prelude.{IsTrue}
 use Rattle.kt_disk.specs.Disk.{Files}
 use Rattle.kt_journal.specs.Log.{records_of, IsOldOrBoth, CanOpen}
 use Rattle.kt_engine.specs.Visits.{root_of}
+use Rattle.kt_engine.specs.Moments.{IsAppendedTo}
 use Rattle.kt_serve.proofs.Failed.{of_batch}
 use Rattle.kt_serve.proofs.Closing.{just_stopped}
 use Rattle.kt_serve.proofs.close.append_last.Goals as goal
@@ -39,3 +40,18 @@ stop-requires-clause-opens g c = λ batch is. of_batch (λ b. IsTrue g.L.Disk.te
 
 pub returns-in-Err-Fault-clause-store : goal.returns-in-Err-Fault-clause-store
 returns-in-Err-Fault-clause-store g c = ap (λ v. v.store) (c.stop.ensures.home _ refl)
+
+-- at each moment the log had what was durable, or that and the batch
+
+pub log_home-requires-clause-moments : goal.log_home-requires-clause-moments
+log_home-requires-clause-moments g c = λ told.
+    let came = c.append_batch.new.self.disk in
+    subst (λ j. IsAppendedTo g.L.Disk.seen g.L.Disk.now g.L.Disk.leaves j c.args.engine.now.log.out came) c.requires.journal.0
+    (subst (λ rs. IsAppendedTo g.L.Disk.seen g.L.Disk.now g.L.Disk.leaves c.args.batch.journal rs came) c.requires.journal.1 (c.append_batch.ensures.any_moment told))
+
+pub stop-requires-clause-log_moments : goal.stop-requires-clause-log_moments
+stop-requires-clause-log_moments g c = λ batch is told.
+    let came = c.append_batch.new.self.disk in
+    of_batch (λ b. IsAppendedTo g.L.Disk.seen g.L.Disk.now g.L.Disk.leaves c.args.engine.now.log.known c.args.engine.now.log.out b.journal.disk) _ batch is
+    (subst (λ j. IsAppendedTo g.L.Disk.seen g.L.Disk.now g.L.Disk.leaves j c.args.engine.now.log.out came) c.requires.journal.0
+    (subst (λ rs. IsAppendedTo g.L.Disk.seen g.L.Disk.now g.L.Disk.leaves c.args.batch.journal rs came) c.requires.journal.1 (c.append_batch.ensures.any_moment told)))

@@ -1,4 +1,4 @@
-use Rattle.std.proofs.Common.{Err, Some, None, inl, inr, sym, ap, subst, ◌∙◌}
+use Rattle.std.proofs.Common.{Err, Some, inl, inr, sym, ap, subst, ◌∙◌}
 use Rattle.std.specs.Prelude.{IsTrue}
 use Rattle.kt_engine.specs.declared.store.Purpose.TheVariants as purpose
 use Rattle.kt_engine.specs.JobMeta.{with_outputs}
@@ -83,4 +83,4 @@ pub returns-in-Ok-clause-root : goal.returns-in-Ok-clause-root
 returns-in-Ok-clause-root g c =
     let none = no_job c.args.number c.args.engine.now.upkeep (sym c.has_job.ensures ∙ c.if-has_job.false) in
     let went = c.in-Ok.ensures.lent.2 ∙ lent_none c.args.engine.now c.args.number (rewritten (job_of c.args.number c.args.engine.now.upkeep)) c.in-Ok.lent.meta c.store_out.new.self.upkeep (ap rewritten none) in
-    c.publish_lent.ensures.root ∙ ap (λ v. record (root_of v) { turn = None }) went ∙ (λ k. record (root_of c.args.engine.now) { turn = sym c.requires.store_home k })
+    c.publish_lent.ensures.root ∙ ap root_of went

@@ -1,10 +1,11 @@
-use Rattle.std.proofs.Common.{rules, ◌≡◌, ◌≤◌, Some, None, inl, inr, refl, sym, ap, subst, ◌∙◌, true, arith}
+use Rattle.std.proofs.Common.{rules, ◌≡◌, ◌≤◌, Some, inl, inr, refl, sym, ap, subst, ◌∙◌, true, arith}
 use Rattle.std.specs.Prelude.{IsTrue, Ok, Err}
 use Rattle.kt_base.specs.Causes.{Rose}
 use Rattle.kt_super.specs.declared.refusal.PrepareNo.TheVariants.{Fault, Memory}
 use Rattle.kt_super.specs.Slots.{super_of, AreStable}
 use Rattle.kt_storeside.specs.Turns.{IsTurn, HasOneOf}
 use Rattle.kt_storeside.specs.Sides.{published_in}
+use Rattle.kt_engine.specs.Moments.{LeavesInTurn}
 use Rattle.kt_engine.specs.Stored.{next_super}
 use Rattle.kt_engine.specs.Visits.{root_of}
 use Rattle.kt_serve.proofs.Closing.{just_stopped, closed, meta_is}
@@ -41,16 +42,16 @@ returns-in-Err-Fault-clause-ends g c = just_stopped c.args.engine.now _ (c.stop.
 pub returns-in-Err-Fault-clause-store_home : goal.returns-in-Err-Fault-clause-store_home
 returns-in-Err-Fault-clause-store_home g c = ap (λ v. v.store.holder) (c.stop.ensures.store_home _ refl)
 
--- no pass has the store then, and each superblock has the same columns
+-- each superblock has the same columns
 
 pub returns-in-Ok-clause-root : goal.returns-in-Ok-clause-root
-returns-in-Ok-clause-root g c = ap root_of c.store_home.ensures.home ∙ (λ k. record (root_of c.args.engine.now) { columns = (sym (ap (λ v. v.store.meta.schema) c.store_home.ensures.home) ∙ c.store_home.ensures.columns) k; turn = None })
+returns-in-Ok-clause-root g c = ap root_of c.store_home.ensures.home ∙ (λ k. record (root_of c.args.engine.now) { columns = (sym (ap (λ v. v.store.meta.schema) c.store_home.ensures.home) ∙ c.store_home.ensures.columns) k })
 
 pub returns-in-Err-Memory-clause-root : goal.returns-in-Err-Memory-clause-root
-returns-in-Err-Memory-clause-root g c = ap root_of c.store_home-in-Err-Memory.ensures.home ∙ (λ k. record (root_of c.args.engine.now) { columns = (sym (ap (λ v. v.store.meta.schema) c.store_home-in-Err-Memory.ensures.home) ∙ c.store_home-in-Err-Memory.ensures.columns) k; turn = None })
+returns-in-Err-Memory-clause-root g c = ap root_of c.store_home-in-Err-Memory.ensures.home ∙ (λ k. record (root_of c.args.engine.now) { columns = (sym (ap (λ v. v.store.meta.schema) c.store_home-in-Err-Memory.ensures.home) ∙ c.store_home-in-Err-Memory.ensures.columns) k })
 
 pub returns-in-Err-Fault-clause-root : goal.returns-in-Err-Fault-clause-root
-returns-in-Err-Fault-clause-root g c = ap root_of (c.stop.ensures.store_home _ refl) ∙ ap (λ t. record (root_of (record c.args.engine.now { tablet = t })) { turn = None }) (c.stop.ensures.core c.requires.done.goes)
+returns-in-Err-Fault-clause-root g c = ap root_of (c.stop.ensures.store_home _ refl) ∙ ap (λ t. root_of (record c.args.engine.now { tablet = t })) (c.stop.ensures.core c.requires.done.goes)
 
 pub returns-in-Err-Fault-clause-home : goal.returns-in-Err-Fault-clause-home
 returns-in-Err-Fault-clause-home g c = ap (λ v. v.log.holder) (c.stop.ensures.store_home _ refl) ∙ c.requires.home
@@ -130,3 +131,24 @@ store_home-requires-clause-job g c = λ m is. inl c.requires.free
 
 pub store_home-requires-in-Err-Memory-clause-job : goal.store_home-requires-in-Err-Memory-clause-job
 store_home-requires-in-Err-Memory-clause-job g c = λ m is. inl c.requires.free
+
+-- at each moment the store had the superblock from before or the one that went out
+
+pub store_home-requires-clause-moments : goal.store_home-requires-clause-moments
+store_home-requires-clause-moments g c = λ t.
+    let s = c.args.engine.now.store in
+    subst (λ o. LeavesInTurn g.D.Disk.seen g.D.Disk.now g.D.Disk.leaves o s.next_file c.args.lent.next_file s.known c.publish-answer.new.disk) (sym (c.requires.meta.1 ∙ c.in-Some.is)) (rw (← c.requires.device) (c.publish-answer.ensures.any_moment t))
+
+pub store_home-requires-in-Err-Memory-clause-moments : goal.store_home-requires-in-Err-Memory-clause-moments
+store_home-requires-in-Err-Memory-clause-moments g c = λ t.
+    let s = c.args.engine.now.store in
+    subst (λ o. LeavesInTurn g.D.Disk.seen g.D.Disk.now g.D.Disk.leaves o s.next_file c.args.lent.next_file s.known c.publish-answer.new.disk) (sym (c.requires.meta.1 ∙ c.in-Some.is)) (rw (← c.requires.device) (c.publish-answer.ensures.any_moment t))
+
+pub stop-requires-clause-log_moments : goal.stop-requires-clause-log_moments
+stop-requires-clause-log_moments g c = λ batch same. absurd (no_log _ batch same)
+
+pub stop-requires-clause-store_moments : goal.stop-requires-clause-store_moments
+stop-requires-clause-store_moments g c = λ lent same.
+    let s = c.args.engine.now.store in
+    of_lent (λ l. IsTrue g.D.Disk.tells → LeavesInTurn g.D.Disk.seen g.D.Disk.now g.D.Disk.leaves s.lent s.next_file l.next_file s.known l.device) _ lent same (λ t.
+    subst (λ o. LeavesInTurn g.D.Disk.seen g.D.Disk.now g.D.Disk.leaves o s.next_file c.args.lent.next_file s.known c.publish-answer.new.disk) (sym (c.requires.meta.1 ∙ c.in-Some.is)) (rw (← c.requires.device) (c.publish-answer.ensures.any_moment t)))

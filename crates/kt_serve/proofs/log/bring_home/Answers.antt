@@ -14,6 +14,7 @@ take_home-requires-clause-appended g c = (
     opens = c.append_batch.ensures.openable;
     others = λ told image left. let run = c.append_batch.ensures.elsewhere told in run.each (g.L.Disk.now c.append_batch.new.self.disk) image run.later (omega arith) left;
     later = c.append_batch.ensures.faults;
+    moments = c.append_batch.ensures.any_moment;
   },
 )
 
@@ -31,5 +32,6 @@ take_broken-requires-clause-broken g c = (
     images = λ told image left. let run = c.append_batch.ensures.any_moment told in run.each (g.L.Disk.now c.append_batch.new.self.disk) image run.later (omega arith) left;
     opens = c.append_batch.ensures.openable;
     others = λ told image left. let run = c.append_batch.ensures.elsewhere told in run.each (g.L.Disk.now c.append_batch.new.self.disk) image run.later (omega arith) left;
+    moments = c.append_batch.ensures.any_moment;
   },
 )

@@ -25,7 +25,17 @@ loop-preserved g c = (
   search rules,
   c.make_durable.ensures.home,
   still_after _ _ _ _ _ _ _ _ (c.apply_row.ensures.pass.0.1 ∙ c.loop.invariant.0.0.1) (still_after _ _ _ _ _ _ _ _ c.loop.invariant.0.0.1 c.loop.invariant.2 (rw c.in-Early.is at c.apply_row.ensures.applied)) c.make_durable.ensures.still,
+  λ rests. c.make_durable.ensures.rests (c.apply_row.ensures.rests (c.loop.invariant.3 rests)),
 )
 
 pub returns-in-Stopped-clause-going : goal.returns-in-Stopped-clause-going
 returns-in-Stopped-clause-going g c = still_going _ _ _ _ _ (still_after _ _ _ _ _ _ _ _ c.loop.invariant.0.0.1 c.loop.invariant.2 (rw c.in-Stopped.is at c.apply_row.ensures.applied).0)
+
+pub returns-in-Applied-clause-rests : goal.returns-in-Applied-clause-rests
+returns-in-Applied-clause-rests g c = λ rests. c.apply_row.ensures.rests (c.loop.invariant.3 rests)
+
+pub returns-in-Stopped-clause-rests : goal.returns-in-Stopped-clause-rests
+returns-in-Stopped-clause-rests g c = λ rests. c.apply_row.ensures.rests (c.loop.invariant.3 rests)
+
+pub returns-in_err-make_durable-in-Early-clause-rests : goal.returns-in_err-make_durable-in-Early-clause-rests
+returns-in_err-make_durable-in-Early-clause-rests g c = λ rests. c.make_durable.ensures.rests (c.apply_row.ensures.rests (c.loop.invariant.3 rests))

@@ -18,6 +18,7 @@ loop-at-init g c = (
   c.make_durable.ensures.home,
   still_going _ _ _ _ _ c.make_durable.ensures.still,
   λ i ts a. still_aloft _ i ts 0 c.args.ops.now _ _ _ _ c.make_durable.ensures.still a,
+  c.make_durable.ensures.rests,
 )
 
 pub apply_durably-requires-clause-aloft : goal.apply_durably-requires-clause-aloft
@@ -38,6 +39,7 @@ loop-at-preserved g c = (
   c.apply_durably.ensures.home,
   going_after _ _ _ _ _ _ _ _ c.loop-at.invariant.0.0.1 c.loop-at.invariant.2 c.apply_durably.ensures.going,
   λ i ts a. advanced_after _ _ _ _ c.loop-at.at c.loop-at.invariant.0.0.1 c.in_ok-apply_durably.ensures.aloft i ts c.args.ops.now (c.loop-at.invariant.3 i ts a),
+  λ rests. c.apply_durably.ensures.rests (c.loop-at.invariant.4 rests),
 )
 
 pub returns-clause-aloft : goal.returns-clause-aloft
@@ -45,3 +47,6 @@ returns-clause-aloft g c =
     let end : c.loop-at.at ≤ length c.args.ops.now = search rules in
     let stop = c.loop-at-test.false in
     λ i ts a. subst (λ k. IsAloft (part c.loop-at.pass) (number c.args.pass.now) i ts c.args.ops.now k) (omega arith) (c.loop-at.invariant.3 i ts a)
+
+pub returns-in_err-apply_durably-clause-rests : goal.returns-in_err-apply_durably-clause-rests
+returns-in_err-apply_durably-clause-rests g c = λ rests. c.apply_durably.ensures.rests (c.loop-at.invariant.4 rests)

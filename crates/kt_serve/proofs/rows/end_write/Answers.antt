@@ -1,6 +1,7 @@
 use Rattle.std.proofs.Common.{ap, ◌∙◌}
 use Rattle.kt_serve.proofs.Ends.{may_end, ended_answers, log_stays, stopped_by, after_stop}
 use Rattle.kt_serve.proofs.Begins.{same_root}
+use Rattle.kt_serve.proofs.Rests.{store_stays}
 use Rattle.kt_serve.proofs.rows.end_write.Goals as goal
 
 pub end-ended-requires : goal.end-ended-requires
@@ -19,3 +20,9 @@ returns-in-Ok-clause-root g c = same_root _ _ c.enter-engine.result c.end-ended.
 pub returns-clause-reply : goal.returns-clause-reply
 returns-clause-reply g c = λ i w. after_stop _ _ _ _ c.enter-engine.result c.end-ended.new.self c.number-by.result _ _ c.enter-engine.ensures.part.0 c.leave.ensures.told.1 (c.leave.ensures.pass.0.1 ∙ c.enter-engine.ensures.pass.0.1) c.enter-engine.ensures.trail c.leave.ensures.told.0
     c.standing.ensures.stops c.end-ended.ensures.visit c.in-Err.ensures.same (stopped_by c.enter-engine.result.tablet.core.stopped c.end-ended.result c.in-Err.field-0 c.end-ended.ensures.goes c.in-Err.is)
+
+pub returns-in-Ok-clause-rests : goal.returns-in-Ok-clause-rests
+returns-in-Ok-clause-rests g c = store_stays _ _ c.enter-engine.result c.end-ended.new.self _ _ c.enter-engine.ensures.part.0 c.leave.ensures.told.1 (c.leave.ensures.pass.0.1 ∙ c.enter-engine.ensures.pass.0.1) (ap (λ v. v.store) c.end-ended.ensures.beside)
+
+pub returns-clause-rests : goal.returns-clause-rests
+returns-clause-rests g c = store_stays _ _ c.enter-engine.result c.end-ended.new.self _ _ c.enter-engine.ensures.part.0 c.leave.ensures.told.1 (c.leave.ensures.pass.0.1 ∙ c.enter-engine.ensures.pass.0.1) (ap (λ v. v.store) c.end-ended.ensures.beside)

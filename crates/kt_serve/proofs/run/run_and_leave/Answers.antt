@@ -8,3 +8,6 @@ returns-clause-run g c = left_run (CameTo g.G.Gate.came c.args.gate.now) (part c
 
 pub returns-clause-home : goal.returns-clause-home
 returns-clause-home g c = c.leave_run.ensures.log c.run_one.ensures.run.home
+
+pub returns-clause-rests : goal.returns-clause-rests
+returns-clause-rests g c = c.leave_run.ensures.rests c.run_one.ensures.rests

@@ -13,7 +13,8 @@ use Rattle.kt_serve.specs.Sessions.{TellsOwn}
 use Rattle.kt_serve.proofs.Begins.{root_at}
 use Rattle.kt_serve.proofs.Lists.{written_back, length_take}
 use Rattle.kt_serve.proofs.Joining.{are_back, kept_each}
-use Rattle.kt_serve.proofs.Runs.{new_part, idle_part, may_run, same_part, none_told, each_ended, back_each, home_again}
+use Rattle.kt_serve.proofs.Rests.{store_rests}
+use Rattle.kt_serve.proofs.Runs.{new_part, idle_part, may_run, same_part, none_told, each_ended, back_each, home_again, store_again}
 use Rattle.kt_serve.proofs.run.run_locked.Goals as goal
 
 pub run_all-requires-clause-enters : goal.run_all-requires-clause-enters
@@ -28,10 +29,10 @@ run_all-requires-clause-on g c = λ κs within j p e root h.
     subst (λ r. IsOn c.args.schema.now r.work) (root_at root (part p.pass) c.args.engine (suc j) h is) c.requires.on
 
 pub run_all-requires-clause-rests : goal.run_all-requires-clause-rests
-run_all-requires-clause-rests g c = λ κs within j p e root h.
+run_all-requires-clause-rests g c = λ κs within j p e.
     let new = c.split_all.ensures.each j p (ap (λ l. slice_get l j) (sym c.deref_mut.ensures.value) ∙ e) in
     let is = new_part (part p.pass) _ c.args.engine _ (suc j) new.part_is c.fill.ensures.told.2 (omega (arith, c.fill.ensures.pass.3, c.requires.own.2)) in
-    ap (λ r. r.turn) (sym (root_at root (part p.pass) c.args.engine (suc j) h is)) ∙ c.requires.fresh.store
+    store_rests (part p.pass) c.args.engine (suc j) is c.requires.fresh.store
 
 pub run_all-requires-clause-idle : goal.run_all-requires-clause-idle
 run_all-requires-clause-idle g c = λ κs within j p e.
@@ -94,15 +95,33 @@ returns-clause-home g c =
     let Kept : Joined Event _ → Type 0 = λ q. (q.part ≡ Some (part_in y q.number)) × Follows session_of q.number q.seen y.tablet.core.trail in
     let kept = subst (Each Kept) (c.join_all-ends.ensures.joined ∙ ap (λ l. taken l (joined c.split_all.new.pass)) new) c.close-engine.ensures.joined in
     let first : Some (part_in y 0) ≡ Some (part_in x 0) = ap (λ n. Some (part_in y n)) (sym number_is) ∙ sym c.close-engine.ensures.part ∙ c.join_all-ends.ensures.pass.2 ∙ c.split_all.ensures.told.1 ∙ c.fill.ensures.told.1 ∙ ap (λ n. Some (part_in x n)) (c.fill.ensures.pass.0.1 ∙ c.requires.own.3) in
-    home_again Came x y c.args.plan.now c.deref_mut.result.now c.run_all.new.places c.requires.fresh.home
+    home_again Came x y c.args.plan.now c.deref_mut.result.now c.run_all.new.places
     (λ j p e. let new = c.split_all.ensures.each j p (ap (λ l. slice_get l j) (sym c.deref_mut.ensures.value) ∙ e) in new.number_is ∙ omega (arith, c.fill.ensures.pass.3, c.requires.own.2))
     c.run_all.ensures
     (λ j q e. (kept_each Kept c.run_all.new.places (joined c.split_all.new.pass) kept j q e).0)
     first
     (λ k past. c.close-engine.ensures.untouched k (omega (arith, past, count, given_is)) ∙ ap (λ o. told part_in o k) filled_is)
+    c.requires.fresh.home
 
 -- no pass has the store out, as before the run
 pub returns-clause-store_home : goal.returns-clause-store_home
 returns-clause-store_home g c =
-    let root : root_of c.close-engine.result ≡ root_of c.args.engine = search rules in
-    ap (λ r. r.turn) root ∙ c.requires.fresh.store
+    let Came = CameTo g.G.Gate.came c.args.gate.now in
+    let x = c.args.engine in
+    let y = c.close-engine.result in
+    let same : length c.run_all.new.places ≡ length c.split_all.new.places.items = c.run_all.auto.places ∙ ap length c.deref_mut.ensures.value in
+    let new = written_back c.split_all.new.places.items c.run_all.new.places c.split_all.new.places.len (search rules) same in
+    let count : length c.deref_mut.result.now ≡ length c.args.plan.now + c.args.workers = search rules in
+    let number_is : number c.join_all-ends.new.pass ≡ 0 = search rules in
+    let given_is : given c.join_all-ends.new.pass ≡ 1 + (length c.args.plan.now + c.args.workers) = search rules in
+    let filled_is : filled c.join_all-ends.new.pass ≡ Some x = c.join_all-ends.ensures.gives.1 ∙ c.split_all.ensures.told.3 ∙ c.fill.ensures.told.2 in
+    let Kept : Joined Event _ → Type 0 = λ q. (q.part ≡ Some (part_in y q.number)) × Follows session_of q.number q.seen y.tablet.core.trail in
+    let kept = subst (Each Kept) (c.join_all-ends.ensures.joined ∙ ap (λ l. taken l (joined c.split_all.new.pass)) new) c.close-engine.ensures.joined in
+    let first : Some (part_in y 0) ≡ Some (part_in x 0) = ap (λ n. Some (part_in y n)) (sym number_is) ∙ sym c.close-engine.ensures.part ∙ c.join_all-ends.ensures.pass.2 ∙ c.split_all.ensures.told.1 ∙ c.fill.ensures.told.1 ∙ ap (λ n. Some (part_in x n)) (c.fill.ensures.pass.0.1 ∙ c.requires.own.3) in
+    store_again Came x y c.args.plan.now c.deref_mut.result.now c.run_all.new.places
+    (λ j p e. let new = c.split_all.ensures.each j p (ap (λ l. slice_get l j) (sym c.deref_mut.ensures.value) ∙ e) in new.number_is ∙ omega (arith, c.fill.ensures.pass.3, c.requires.own.2))
+    c.run_all.ensures
+    (λ j q e. (kept_each Kept c.run_all.new.places (joined c.split_all.new.pass) kept j q e).0)
+    first
+    (λ k past. c.close-engine.ensures.untouched k (omega (arith, past, count, given_is)) ∙ ap (λ o. told part_in o k) filled_is)
+    c.requires.fresh.store

@@ -23,7 +23,7 @@ pub take_next-requires-clause-on : goal.take_next-requires-clause-on
 take_next-requires-clause-on g c = on_root (λ root. IsOn c.args.schema.now root.work) c.requires.next.part _ _ c.requires.next.is c.loop-at.invariant.1 c.requires.on
 
 pub take_next-requires-clause-rests : goal.take_next-requires-clause-rests
-take_next-requires-clause-rests g c = on_root (λ root. root.turn ≡ None) c.requires.next.part _ _ c.requires.next.is c.loop-at.invariant.1 c.requires.rests
+take_next-requires-clause-rests g c = c.loop-at.invariant.6
 
 pub take_next-requires-clause-command : goal.take_next-requires-clause-command
 take_next-requires-clause-command g c = command_after _ _ (c.loop-at.at + 1) c.index-commands-at.result c.requires.next.part _ _ c.requires.next.is c.loop-at.invariant.0.0.1 c.loop-at.invariant.1
@@ -57,6 +57,7 @@ loop-at-preserved g c = (
   tells_before (number c.args.pass.now) (number c.loop-at.pass) c.take_next.new.replies.items (seen c.take_next.new.pass) (part c.args.pass.now) (part c.loop-at.pass) c.loop-at.invariant.0.0.1 c.loop-at.invariant.1 (c.in-Ok.ensures.tells (ok_not _ Memory)),
   each_more (λ k reply. CameTo g.G.Gate.came c.args.gate.now (number c.args.pass.now) k reply) c.loop-at.replies.items c.take_next.new.replies.items c.in-Ok.ensures.points.0 (c.loop-at.at + 1) (ap (λ n. n + 1) (sym c.loop-at.invariant.3)) c.in-Ok.ensures.points.1 c.loop-at.invariant.5
       (subst (λ n. CameTo g.G.Gate.came c.args.gate.now n (c.loop-at.at + 1) c.in-Ok.ensures.points.0) c.loop-at.invariant.0.0.1 c.in-Ok.ensures.points.2),
+  c.take_next.ensures.rests,
 )
 
 pub returns-clause-tells : goal.returns-clause-tells

@@ -4,7 +4,7 @@ use Rattle.kt_history.specs.declared.reply.Reply.TheVariants as reply
 use Rattle.kt_seatlock.specs.Passes.{number, part, seen}
 use Rattle.kt_serve.specs.Sessions.{IsCommand, IsWrite}
 use Rattle.kt_serve.proofs.Commands.{command_after, free_log, free_rests, going_rests, going_on, aloft_of, going_answers}
-use Rattle.kt_serve.proofs.Maintained.{rests_after}
+use Rattle.kt_serve.proofs.Rests.{store_same}
 use Rattle.kt_serve.proofs.Stills.{going_after}
 use Rattle.kt_serve.proofs.Open.{open_before}
 use Rattle.kt_serve.proofs.visits.begin_write.Goals as goal
@@ -39,13 +39,11 @@ loop-preserved-in-Err-Wait g c = let b = rw c.in-Err-Wait.field-0-is at c.in-Err
   free_rests _ _ _ (ap (λ m. m.0.part) c.rest.ensures.2) b.0,
   going_rests _ _ _ _ _ _ _ (ap (λ m. m.0.part) c.rest.ensures.2) (ap (λ m. m.0.seen) c.rest.ensures.2) (going_on _ _ _ _ _ _ _ _ c.loop.invariant.0.0.1 c.loop.invariant.2 c.begin_once.ensures.root b.1),
   c.in-Err-Wait.ensures.kept ∙ c.loop.invariant.3,
+  store_same _ _ (ap (λ m. m.0.part) c.rest.ensures.2) (c.begin_once.ensures.rests c.loop.invariant.4),
 )
 
 pub make_room-requires-clause-rests : goal.make_room-requires-clause-rests
-make_room-requires-clause-rests g c =
-    let going = going_on (number c.args.pass.now) (number c.loop.pass) (part c.args.pass.now) (part c.loop.pass) (part c.begin_once.new.pass) (seen c.args.pass.now) (seen c.loop.pass) (seen c.begin_once.new.pass) c.loop.invariant.0.0.1 c.loop.invariant.2 c.begin_once.ensures.root
-    (rw c.in-Err-Room.field-0-is at c.in-Err-Room.ensures.begun).1 in
-    rests_after (part c.args.pass.now) (part c.begin_once.new.pass) c.args.index c.requires.next c.requires.rests going.root
+make_room-requires-clause-rests g c = c.begin_once.ensures.rests c.loop.invariant.4
 
 pub returns-in-Err-Memory-clause-home : goal.returns-in-Err-Memory-clause-home
 returns-in-Err-Memory-clause-home g c = let b = rw c.in-Err-Memory.field-0-is at c.in-Err-Memory.ensures.begun in free_log _ _ b.0
@@ -68,7 +66,7 @@ loop-preserved g c =
     let here = going_on (number c.args.pass.now) (number c.loop.pass) (part c.args.pass.now) (part c.loop.pass) (part c.begin_once.new.pass) (seen c.args.pass.now) (seen c.loop.pass) (seen c.begin_once.new.pass) c.loop.invariant.0.0.1 c.loop.invariant.2 c.begin_once.ensures.root b.1 in
     let there = going_after (number c.args.pass.now) (number c.begin_once.new.pass) (part c.args.pass.now) (part c.begin_once.new.pass) (part c.make_room.new.pass) (seen c.args.pass.now) (seen c.begin_once.new.pass) (seen c.make_room.new.pass)
     (c.begin_once.ensures.pass.0.1 ∙ c.loop.invariant.0.0.1) here c.make_room.ensures.going in
-    (search rules, c.make_room.ensures.next, there, c.in-Err-Room.ensures.kept ∙ c.loop.invariant.3)
+    (search rules, c.make_room.ensures.next, there, c.in-Err-Room.ensures.kept ∙ c.loop.invariant.3, c.make_room.ensures.rests)
 
 pub returns-in-Err-Stopped-make_room-clause-begun : goal.returns-in-Err-Stopped-make_room-clause-begun
 returns-in-Err-Stopped-make_room-clause-begun g c =
@@ -84,3 +82,15 @@ returns-in-Err-Memory-make_room-clause-begun g c =
     let here = going_on (number c.args.pass.now) (number c.loop.pass) (part c.args.pass.now) (part c.loop.pass) (part c.begin_once.new.pass) (seen c.args.pass.now) (seen c.loop.pass) (seen c.begin_once.new.pass) c.loop.invariant.0.0.1 c.loop.invariant.2 c.begin_once.ensures.root b.1 in
     going_after (number c.args.pass.now) (number c.begin_once.new.pass) (part c.args.pass.now) (part c.begin_once.new.pass) (part c.make_room.new.pass) (seen c.args.pass.now) (seen c.begin_once.new.pass) (seen c.make_room.new.pass)
     (c.begin_once.ensures.pass.0.1 ∙ c.loop.invariant.0.0.1) here c.make_room.ensures.going
+
+pub returns-in-Ok-begin_once-clause-rests : goal.returns-in-Ok-begin_once-clause-rests
+returns-in-Ok-begin_once-clause-rests g c = c.begin_once.ensures.rests c.loop.invariant.4
+
+pub returns-in-Err-Stopped-clause-rests : goal.returns-in-Err-Stopped-clause-rests
+returns-in-Err-Stopped-clause-rests g c = c.begin_once.ensures.rests c.loop.invariant.4
+
+pub returns-in-Err-Large-clause-rests : goal.returns-in-Err-Large-clause-rests
+returns-in-Err-Large-clause-rests g c = c.begin_once.ensures.rests c.loop.invariant.4
+
+pub returns-in-Err-Memory-clause-rests : goal.returns-in-Err-Memory-clause-rests
+returns-in-Err-Memory-clause-rests g c = c.begin_once.ensures.rests c.loop.invariant.4

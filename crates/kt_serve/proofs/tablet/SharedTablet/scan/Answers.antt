@@ -34,3 +34,6 @@ returns-in-Ok-clause-answer g c = is_answered_ok (part c.args.pass.now) (part c.
 
 pub returns-in-Err-Stopped-clause-answer : goal.returns-in-Err-Stopped-clause-answer
 returns-in-Err-Stopped-clause-answer g c = λ ne. absurd (ne refl)
+
+pub returns-in-Ok-clause-rests : goal.returns-in-Ok-clause-rests
+returns-in-Ok-clause-rests g c = λ rests. c.read_rows.ensures.rests (c.draw_time.ensures.rests rests)

@@ -15,3 +15,9 @@ returns-in-Chore-clause-memory g c = on_err_weaker c.chore.result (going_lacks (
 
 pub returns-in-Chore-clause-done : goal.returns-in-Chore-clause-done
 returns-in-Chore-clause-done g c = λ chore asked. done_command c.args.command.now _ chore (part c.args.pass.now) (part c.chore.new.pass) c.chore.result c.in-Chore.is c.chore.ensures.done asked
+
+pub returns-in-Mark-clause-rests : goal.returns-in-Mark-clause-rests
+returns-in-Mark-clause-rests g c = c.mark.ensures.rests c.requires.rests
+
+pub returns-in-Scan-clause-rests : goal.returns-in-Scan-clause-rests
+returns-in-Scan-clause-rests g c = c.scan.ensures.rests c.requires.rests

@@ -66,3 +66,12 @@ returns-in-Some-clause-begun g c = λ ts outcomes e.
 
 pub returns-in-Ok-clause-begun : goal.returns-in-Ok-clause-begun
 returns-in-Ok-clause-begun g c = λ ts outcomes e. subst (λ n. g.G.Gate.came c.args.gate.now (point.Begun n c.args.index)) c.number-session.ensures c.at.ensures
+
+pub returns-in-Ok-clause-rests : goal.returns-in-Ok-clause-rests
+returns-in-Ok-clause-rests g c = c.end_write.ensures.rests (c.apply_rows.ensures.rests c.begin_write.ensures.rests)
+
+pub returns-in-Err-Stopped-clause-rests : goal.returns-in-Err-Stopped-clause-rests
+returns-in-Err-Stopped-clause-rests g c = c.apply_rows.ensures.rests c.begin_write.ensures.rests
+
+pub returns-in-Err-Memory-clause-rests : goal.returns-in-Err-Memory-clause-rests
+returns-in-Err-Memory-clause-rests g c = c.apply_rows.ensures.rests c.begin_write.ensures.rests
