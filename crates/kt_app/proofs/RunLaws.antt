@@ -108,7 +108,11 @@ module _ {L D : Type 0} (tells : Bool) (now : L → ℕ) (leaves : L → ℕ →
       let here : AsBefore left kept = record {
         frames = frames_kept left frames;
         superblock = super_kept kept supers;
-        both = λ image was. let old = keeps was.0.0 was.1.0 image.log image.store was.0.1 was.1.1 in (record { log = old.0; store = old.1 }, ((was.0.0, old.2), (was.1.0, old.3)), old.4);
+        both = λ image was.
+            let l = frames was.0.0 in
+            let s = supers was.1.0 in
+            let old = keeps was.0.0 was.1.0 (now left) (now' kept) image.log image.store (record { since = l.later; until = omega arith; left = was.0.1 }) (record { since = s.later; until = omega arith; left = was.1.1 }) (inl refl) in
+            (record { log = old.0; store = old.1 }, ((was.0.0, old.2), (was.1.0, old.3)), old.4);
       } in
       subst (λ l. AsBefore l stored) (sym log_is) (subst (λ s. AsBefore left s) (sym store_is) here)
 

@@ -142,6 +142,7 @@ module _ {L D C : Type 0} (readings : C → Option (List ℕ)) (tells : Bool) (n
         mark = super.a;
         marked = subst (λ m. IsMarkOf m its_lines super.a) (sym opens.mark_is) (marks.mark h.meta h.one);
         last = last;
+        since = h.front.since;
         within = omega (arith, ap (λ (st : State). st.c) (sound.stands first opens).run.state, h.front.within, marks.last h.meta h.one);
         holds = has_content rules columns image last past (λ records reads. let same : records ≡ h.front.records = two_logs (log_of image.log) records h.front.records reads h.front.reads in subst IsLog (sym same) h.front.log) both;
       }

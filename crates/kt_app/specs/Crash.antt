@@ -37,7 +37,7 @@ pub record HasContent (rules : Rules) (columns : List Column) (image : Image) (l
   pub reopens : Reopens columns image last past
 
 -- An image holds the opening past with the run's writes up to a time, every acknowledged one among them, seen from the opening mark or from that of a
--- `mark` line, and nothing later than the run's last timestamp.
+-- `mark` line. Its last timestamp is no earlier than that of the opening, and no later than the run's.
 pub record HoldsPrefix (rules : Rules) (columns : List Column) (work : Workload) (past : Past) (c : ℕ) (events : List Event) (image : Image) : Type 0 where
   pub t : ℕ
   pub after_opening : c ≤ t
@@ -45,6 +45,7 @@ pub record HoldsPrefix (rules : Rules) (columns : List Column) (work : Workload)
   pub mark : ℕ
   pub marked : IsMarkOf past.mark events mark
   pub last : ℕ
+  pub since : c ≤ last
   pub within : last ≤ (end_of work past c events).c
   pub holds : HasContent rules columns image last (raise (upto t (past_after work past c events)) mark)
 
