@@ -69,8 +69,16 @@ fn run<R: Threads + Wait + Sync, L: Disk + Send + Drop, D: Disk + Send + Drop, G
 fn failing(alloc: Global, change: u64) -> Result<FaultDisk<MemDisk>, Fail>
     ensures { IfOk result (λ disk. disk.inner.calls ≡ []) }
 {
+    failing_over(alloc, MemDisk::new(alloc), change)
+}
+
+// A device to which nothing was done yet, of which a change fails.
+fn failing_over(alloc: Global, disk: MemDisk, change: u64) -> Result<FaultDisk<MemDisk>, Fail>
+    requires { disk.calls ≡ [] }
+    ensures { IfOk result (λ disk. disk.inner.calls ≡ []) }
+{
     let fails = FailList::of(vec![in alloc; DiskFail::Change(change)]?);
-    match FaultDisk::of(alloc, MemDisk::new(alloc), fails) {
+    match FaultDisk::of(alloc, disk, fails) {
         Ok(disk) => Ok(disk),
         Err(_) => Err("no memory".into()),
     }

@@ -58,7 +58,7 @@ pub(super) struct Devices {
 }
 
 // New ones.
-fn empty(alloc: Global) -> Devices
+pub(super) fn empty(alloc: Global) -> Devices
     ensures { (result.log.calls ≡ []) × (result.store.calls ≡ []) }
 {
     Devices {
@@ -151,6 +151,19 @@ fn store_keeps<R: Threads + Wait + Sync>(
     Ok(is_done)
 }
 
+// What a run of these lines over new devices leaves at its end.
+pub(super) fn written<R: Threads + Wait + Sync>(
+    rt: &R,
+    alloc: Global,
+    lines: &[u8],
+) -> Result<Devices, NoMemory>
+    ensures { IfOk result (λ left. (left.log.calls ≡ []) × (left.store.calls ≡ [])) }
+{
+    let devices = after(rt, alloc, lines, empty(alloc))?;
+    let (log, store) = (devices.log.moment(), devices.store.moment());
+    left(alloc, &devices, log, store, &[])
+}
+
 // The devices of a run of these lines over what a run of others wrote.
 fn kept_up<R: Threads + Wait + Sync>(
     rt: &R,
@@ -158,9 +171,7 @@ fn kept_up<R: Threads + Wait + Sync>(
     writes: &[u8],
     chore: &[u8],
 ) -> Result<Devices, NoMemory> {
-    let written = after(rt, alloc, writes, empty(alloc))?;
-    let (log, store) = (written.log.moment(), written.store.moment());
-    let kept = left(alloc, &written, log, store, &[])?;
+    let kept = written(rt, alloc, writes)?;
     after(rt, alloc, chore, kept)
 }
 

@@ -32,6 +32,15 @@ const APPENDS: Moment = Moment::ChangeAfter {
     },
 };
 
+// The first change of the store once the first session comes to its third command.
+const COMPACTS: Moment = Moment::ChangeAfter {
+    mark: 2,
+    point: Point::Before {
+        session: 1,
+        index: 3,
+    },
+};
+
 // The second session comes to its first command.
 const SECOND: Moment = Moment::At(Point::Before {
     session: 2,
@@ -67,7 +76,7 @@ pub(super) const NONE: Rule = Rule {
     }),
 };
 
-const SCHEDULES: [Schedule; 4] = [
+const SCHEDULES: [Schedule; 5] = [
     // A write flies beside another.
     Schedule {
         lines: b"session\ninsert 1 \"a\"\nsession\ninsert 2 \"b\"\n",
@@ -117,9 +126,22 @@ const SCHEDULES: [Schedule; 4] = [
         second: NONE,
         printed: b"session 1\nat 20480 ok\nrows 20480 1\n1 \"a\"\nsession 2\nat 20481 ok\nahm 20481\nancient 20480 20481\nhistory\nbegin 1 1 20480 5\nend 1 1 20480\nrows 1 2 20480\nbegin 2 1 20481 3\nend 2 1 20481\nmark 2 2 20481\nancient 2 3 20480 20481\ntablet ahm 20481 last 20481 rowsets 0\n",
     },
+    // A row is changed, and read as it was, while its rowset is merged.
+    Schedule {
+        lines: b"session\ninsert 1 \"a\"\nflush\ncompact\nsession\nupdate 1 v=\"b\"\nscan at 20480\n",
+        first: Rule {
+            hold: SECOND,
+            until: COMPACTS,
+        },
+        second: Rule {
+            hold: COMPACTS,
+            until: ANSWERED_AGAIN,
+        },
+        printed: b"session 1\nat 20480 ok\ndone\ndone\nsession 2\nat 20481 ok\nrows 20480 1\n1 \"a\"\nhistory\nbegin 1 1 20480 5\nend 1 1 20480\nchore 1 2\nbegin 2 1 20481 3\nend 2 1 20481\nrows 2 2 20480\nchore 1 3\ntablet ahm 0 last 20481 rowsets 1\n",
+    },
 ];
 
-// The status and the output of a schedule over an empty log, and whether it was held in vain.
+// The status and the output of a schedule over an empty log and store, and whether it was held in vain.
 fn play<R: Threads + Wait + Clock + Sync>(
     rt: &R,
     alloc: Global,
@@ -127,7 +149,8 @@ fn play<R: Threads + Wait + Clock + Sync>(
 ) -> Result<(u8, MemSink, bool), NoMemory> {
     let gate = HoldGate::of(rt, it.first, it.second);
     let log = HeldDisk::of(MemDisk::new(alloc), &gate, 1);
-    let (status, sink, ..) = run(rt, alloc, it.lines, log, MemDisk::new(alloc), &gate)?;
+    let store = HeldDisk::of(MemDisk::new(alloc), &gate, 2);
+    let (status, sink, ..) = run(rt, alloc, it.lines, log, store, &gate)?;
     Ok((status, sink, gate.gave_up()))
 }
 

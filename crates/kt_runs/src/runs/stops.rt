@@ -1,9 +1,11 @@
 //! Runs of which one device fails at a change, at each in turn. Whatever a crash then leaves of both opens with the first writes of the run, each one that was
 //! answered among them.
 
-use super::crashes::{Devices, PICKS, left, reads};
+ghost use Rattle.std.specs.Prelude.{◌≡◌, [], IfOk};
+
+use super::crashes::{Devices, PICKS, empty, left, reads, written};
 use super::schedules::NONE;
-use super::{failing, run};
+use super::{failing_over, run};
 use crate::hold::{HoldGate, Moment, Rule};
 use kt_base::{MemSink, NoMemory};
 use kt_disk::Point;
@@ -16,8 +18,10 @@ use std::time::Clock;
 // A run ends after fewer changes of a device than these.
 const MOST: u64 = 256;
 
-// What is run, how it is held, and what the reads then print, where none of its writes is there, the first alone, the first two, and three.
+// What is run before, where something is, what is run over devices that fail, how it is held, and what the reads then print, where none of its writes is there,
+// the first alone, the first two, and three.
 struct Stopped {
+    before: &'static [u8],
     lines: &'static [u8],
     hold: Rule,
     left: [&'static [u8]; 4],
@@ -42,21 +46,24 @@ const UPDATED: &[u8] =
 const UPDATED_AGAIN: &[u8] =
     b"session 1\nrows 20480 1\n1 \"a\"\nrows 20481 1\n1 \"b\"\nrows 20482 1\n1 \"c\"\nhistory\n";
 
-const TABLE: [Stopped; 3] = [
+const TABLE: [Stopped; 4] = [
     // A row is deleted and inserted anew, and both its rowsets are merged.
     Stopped {
+        before: b"",
         lines: b"session\ninsert 1 \"a\"\nflush\ndelete 1\ninsert 1 \"b\"\nflush\ncompact\nscan at 20480\nscan at 20481\nscan at 20482\n",
         hold: NONE,
         left: [NOTHING, INSERTED, DELETED, INSERTED_ANEW],
     },
     // Changes of a row go to files, and these are put together and into its base.
     Stopped {
+        before: b"",
         lines: b"session\ninsert 1 \"a\"\nflush\nupdate 1 v=\"b\"\nflush-deltas\nupdate 1 v=\"c\"\nflush-deltas\nminor\nmajor\nscan at 20480\nscan at 20481\nscan now\n",
         hold: NONE,
         left: [NOTHING, INSERTED, UPDATED, UPDATED_AGAIN],
     },
     // A row is updated beside the maintenance of its rowset, once its insert is answered.
     Stopped {
+        before: b"",
         lines: b"session\ninsert 1 \"a\"\nflush\ncompact\nsession\nupdate 1 v=\"b\"\n",
         hold: Rule {
             hold: Moment::At(Point::Before {
@@ -69,6 +76,13 @@ const TABLE: [Stopped; 3] = [
             }),
         },
         left: [NOTHING, INSERTED, UPDATED, UPDATED],
+    },
+    // A row is deleted and inserted anew beside the compaction of its rowset.
+    Stopped {
+        before: b"session\ninsert 1 \"a\"\nflush\n",
+        lines: b"session\ncompact\nsession\ndelete 1\ninsert 1 \"b\"\n",
+        hold: NONE,
+        left: [INSERTED, DELETED, INSERTED_ANEW, INSERTED_ANEW],
     },
 ];
 
@@ -126,6 +140,17 @@ fn keeps<R: Threads + Wait + Sync>(
     Ok(true)
 }
 
+// The devices before a run.
+fn begun<R: Threads + Wait + Sync>(rt: &R, alloc: Global, it: &Stopped) -> Result<Devices, NoMemory>
+    ensures { IfOk result (λ left. (left.log.calls ≡ []) × (left.store.calls ≡ [])) }
+{
+    if it.before.is_empty() {
+        Ok(empty(alloc))
+    } else {
+        written(rt, alloc, it.before)
+    }
+}
+
 // The status and the output of a run whose devices fail at these changes, and what became of both.
 fn run_failing<R: Threads + Wait + Clock + Sync>(
     rt: &R,
@@ -135,8 +160,9 @@ fn run_failing<R: Threads + Wait + Clock + Sync>(
     store_fails: u64,
 ) -> Result<(u8, MemSink, Devices), Fail> {
     let gate = HoldGate::of(rt, it.hold, NONE);
-    let log = failing(alloc, log_fails)?;
-    let store = failing(alloc, store_fails)?;
+    let found = begun(rt, alloc, it)?;
+    let log = failing_over(alloc, found.log, log_fails)?;
+    let store = failing_over(alloc, found.store, store_fails)?;
     let (status, sink, log, store) = run(rt, alloc, it.lines, log, store, &gate)?;
     let devices = Devices {
         log: log.into_inner(),
