@@ -1,14 +1,17 @@
 """Compactions: all disk rowsets become new ones, and nothing of it shows, at any time, in this run and in the next."""
+import random
 import struct
 
 import spelling as spelled
 from files import Table
 from flushes import at_all_times, plays, prints, times_in
 from logs import COLUMNS, TABLE
+from machine import Machine, Script
 from room import Wrong
 from rowsets import all_named, number_of
 from spelling import KEY, REDO, UNDO
 from stores import fill, held, lay
+from stress import HEAD, command
 
 PAIRS = Table(("k", "string", KEY), ("n", "int64", 0))
 LONG = Table(("k", "string", KEY), ("v", "string", 0))
@@ -116,11 +119,16 @@ def what_is_past_goes(room):
     plays(room, script("scan now", 'insert "a" 4', "flush", "scan now"), machine, 1)
 
 
-def merges_two(room, table, base_of, keys, cut):
-    """A compaction of two rowsets that have these keys by turns leaves two that have them in their order, the second from here on."""
+def lay_two(room, table, base_of, keys):
+    """Lays two rowsets that have these keys by turns."""
     files = {3 + of: base_of(keys[of::2]) for of in (0, 1)}
     rowsets = [spelled.rowset(1 + of, 0, (3 + of, len(files[3 + of]))) for of in (0, 1)]
     lay(room, [], files, {1: spelled.slot(spelled.body(1, table.columns, rowsets, last=4096, next_rowset=3, next_file=5))})
+
+
+def merges_two(room, table, base_of, keys, cut):
+    """A compaction of two rowsets that have these keys by turns leaves two that have them in their order, the second from here on."""
+    lay_two(room, table, base_of, keys)
     status, output = table.run(room, ["compact"])
     if status:
         raise Wrong(f"status {status}: {output}")
@@ -158,6 +166,55 @@ def a_crash_at_its_gate_leaves_one_of_both(room):
             raise Wrong(f"gate {gate}: the store has {sorted(held(room, 'DATA'))}")
 
 
+# ---- beside writes
+
+
+def beside(rng, times, keys):
+    """A write on a few of these keys, which it changes, deletes or inserts anew, or a scan of now or of a time that was."""
+    word = command(rng, keys, 1)
+    return f"scan at {rng.choice(times)}" if word.startswith(("mark", "scan at")) else word
+
+
+def changes_beside_a_compaction(room):
+    """Rows of three rowsets are changed, deleted and inserted anew while these are merged, again and again, and each line, each reply and each row at
+    each time is a plain machine's, in this run and in the next."""
+    rng, machine, times = random.Random(1), None, []
+    for rowsets in (1, 2, 3):
+        rows = [f'insert {it} "{it % 7}" {it % 9}' for it in range(rowsets, 2_000, 3)]
+        first = "".join(" ; ".join(rows[at : at + 50]) + "\n" for at in range(0, len(rows), 50))
+        machine, output = plays(room, f"{HEAD}session\n{first}flush\n", machine, rowsets)
+        times += times_in(output)[-1:]
+    for _ in range(3):
+        lines = ["session", *["compact"] * 4]
+        for _ in range(3):
+            lines += ["session", *(beside(rng, times, 40) for _ in range(40))]
+        machine, output = plays(room, HEAD + "".join(f"{it}\n" for it in lines), machine, 1)
+        times += times_in(output)
+        scans = at_all_times(rng.sample(times, 4))
+        machine, _ = plays(room, f"{HEAD}session\n{scans}flush\n{scans}", machine)
+
+
+def late_changes_go_into_several_outputs(room):
+    """Rows of both outputs of a compaction are changed, deleted and inserted anew beside it. Each output has a REDO file of its own deletes and one of what
+    came later at most, and all show the same rows, in the next run too."""
+    keys = [b"%05d" % it for it in range(66_000)]
+    lay_two(room, PAIRS, lambda some: spelled.base_file(some, (2, [int(it) % 2 for it in some])), keys)
+    machine = Machine(Script(PAIRS.head))
+    machine.past = {(f'"{it:05}"',): [(0, {"k": f'"{it:05}"', "n": str(it % 2)})] for it in range(66_000)}
+    machine.c = 4096
+    lines = ["session", "compact"]
+    for of in range(4):
+        mine = [f'"{it:05}"' for it in (*range(of, 65_000, 2_600), *range(65_600 + of, 66_000, 80))]
+        lines += ["session", *(f"update {it} n=7" for it in mine), *(f"delete {it}" for it in mine[::2]), *(f"insert {it} 8" for it in mine[::4])]
+    machine, output = plays(room, PAIRS.head.removesuffix("session\n") + "".join(f"{it}\n" for it in lines), machine, 2)
+    named = all_named(held(room, "DATA"), PAIRS.columns)
+    if [it[0] for it in named] != [3, 4] or any(len(redos) > 2 for _, _, _, redos in named):
+        raise Wrong(f"the superblock names {named}")
+    times = times_in(output)
+    scans = "".join(f"{it} where n>1\n" for it in ("scan now", f"scan at {times[len(times) // 2]}", "scan at 4096"))
+    machine, _ = plays(room, f"{PAIRS.head}{scans}compact\nscan now where n>1\n", machine)
+
+
 ALL = [
     a_compaction_shows_nothing,
     a_key_of_two_rowsets_is_one_row,
@@ -168,4 +225,6 @@ ALL = [
     rows_go_into_several_outputs,
     long_rows_go_into_several_outputs,
     a_crash_at_its_gate_leaves_one_of_both,
+    changes_beside_a_compaction,
+    late_changes_go_into_several_outputs,
 ]

@@ -148,22 +148,46 @@ def said(rng, times):
     return re.sub(r"^(scan at|mark) \d+", rf"\1 {named}", word) if rng.random() < 0.5 or not word.startswith("mark") else "scan now"
 
 
+def written(rng):
+    """A write."""
+    words = (command(rng, 8, 2) for _ in iter(int, 1))
+    return next(it for it in words if not it.startswith(("scan", "mark")))
+
+
+def beside(calls):
+    """How often the log was written while new files of the store were."""
+    count, is_out = 0, False
+    for folder, call, name, *_ in calls:
+        if folder == "DATA" and name:
+            is_out = name not in ("f1", "f2") and (is_out or call == "make")
+        count += is_out and folder == "LOG" and call == "write"
+    return count
+
+
 class Chain:
     """What went on in a room so far: its writes and marks, and the plain machine of them."""
 
     def __init__(self, room, rng):
-        self.room, self.rng, self.writes, self.marks, self.machine = room, rng, [], [0], None
+        self.room, self.rng, self.writes, self.marks, self.machine, self.beside = room, rng, [], [0], None, 0
+
+    def sessions(self):
+        """The lines of random sessions; or of some that only write, while another one has what was written before merged, again and again."""
+        if self.rng.random() < 0.5:
+            return [[said(self.rng, self.writes) for _ in range(20)] for _ in range(self.rng.choice((1, 2, 3)))]
+        return [["flush", *["compact"] * 5], *([written(self.rng) for _ in range(12)] for _ in range(3))]
 
     def runs(self):
         """Runs random sessions. Returns both folders as they were, and the calls on their files."""
-        lines = [line for _ in range(self.rng.choice((1, 2, 3))) for line in ["session", *(said(self.rng, self.writes) for _ in range(20))]]
+        lines = [line for it in self.sessions() for line in ["session", *it]]
         before = {folder: held(self.room, folder) for folder in ("LOG", "DATA")}
         script = HEAD + "".join(f"{it}\n" for it in lines)
         words = ["--workers", str(self.rng.choice((0, 0, 1, 4))), "--pool", "1024"]
         self.machine, output = plays(self.room, script, self.machine, words=words, watch=traced(self.room, *WATCHED))
         self.writes += [int(it) for it in re.findall(r"^begin \d+ \d+ (\d+)", output, re.M)]
         self.marks += [int(it) for it in re.findall(r"^ahm (\d+)", output, re.M)]
-        return before, list(changes_in(calls_of(self.room)))
+        calls = list(changes_in(calls_of(self.room)))
+        self.beside += beside(calls)
+        return before, calls
 
     def opened(self, count):
         """The machine that an opening with so many of the writes leaves."""
@@ -195,7 +219,8 @@ class Chain:
 
 
 def tries(room, seed):
-    """Three runs, each over what a crash left of the one before; what was left of each is opened at its end and at two moments, or it is not."""
+    """Three runs, each over what a crash left of the one before; what was left of each is opened at its end and at two moments, or it is not. Returns how
+    often the log was written beside files of the store."""
     rng = random.Random(seed)
     chain = Chain(room, rng)
     for _ in range(3):
@@ -205,26 +230,29 @@ def tries(room, seed):
             chain.writes, chain.machine = list(writes), machine
             count = chain.crashes(left_behind(before, calls[:at], rng))
             asks(at < len(calls) or count == len(writes), f"{count} writes are there at the end, of {len(writes)}")
+    return chain.beside
 
 
 def a_crash_leaves_the_first_writes(room, runs=4):
     """What a crash at any call leaves of random sessions opens with their first writes, and nothing else, at each time."""
     if not has_strace():
-        return
+        return 0
+    count = 0
     for seed in range(runs):
         fill(room, "LOG", {})
         fill(room, "DATA", {})
         try:
-            tries(room, seed)
+            count += tries(room, seed)
         except Disagrees as no:
             raise Wrong(f"seed {seed}: {no}") from None
+    return count
 
 
 def main():
     runs = int(sys.argv[1]) if sys.argv[1:] else 500
     with tempfile.TemporaryDirectory() as folder:
-        a_crash_leaves_the_first_writes(Room(f"{TOP}/crates/kt_main/out/kt_main", folder), runs)
-    print(f"{3 * runs} runs of sessions: what a crash leaves of each is its first writes")
+        count = a_crash_leaves_the_first_writes(Room(f"{TOP}/crates/kt_main/out/kt_main", folder), runs)
+    print(f"{3 * runs} runs of sessions: what a crash leaves of each is its first writes. {count} times the log was written beside new files of the store")
 
 
 ALL = [a_crash_leaves_the_first_writes]

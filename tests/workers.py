@@ -82,6 +82,30 @@ def workers_compact_three_rowsets(room):
     reads_the_same(room, times_in(output), machine)
 
 
+def workers_compact_beside_writes(room):
+    """Three rowsets with one range of keys become one while sessions change, delete and insert anew what they have."""
+    rows = [[f"insert {it} 0" for it in range(of, 6_000, 3)] for of in range(3)]
+    machine, _ = plays(room, SESSION + "".join(f"{writes(some)}flush\n" for some in rows), None, 3)
+    lines = []
+    for of in range(4):
+        mine = range(of, 6_000, 120)
+        lines += ["session", *(f"update {it} n=1" for it in mine), *(f"delete {it}" for it in mine[::2]), *(f"insert {it} 2" for it in mine[::4])]
+    machine, output = plays(room, SESSION.removesuffix("session\n") + "".join(f"{it}\n" for it in lines), machine, words=FOUR)
+    machine = comes_to(room, FOUR, machine, lambda it: len(it) < 3)
+    reads_the_same(room, times_in(output), machine)
+
+
+def sessions_that_need_room_beside_compactions(room):
+    """Writes that find no cells free, and have them once rows went to files, end beside sessions and workers that compact."""
+    machine = None
+    for workers in (0, 1, 4):
+        rng = random.Random(workers)
+        said = [[*["compact"] * 6, "flush"], *([f'upsert {rng.randrange(40)} v="{"v" * rng.choice((9, 2_000))}"' for _ in range(30)] for _ in range(3))]
+        lines = "".join(f"{it}\n" for some in said for it in ["session", *some])
+        machine, output = plays(room, HEAD + lines, machine, words=["--workers", str(workers), "--pool", "1024"])
+        machine, _ = plays(room, f"{HEAD}session\n{at_all_times(rng.sample(times_in(output), 4))}", machine)
+
+
 def workers_end_without_work(room):
     """Where there is nothing to do, a run prints with workers what it prints without, and ends."""
     for lines in ("", "session\n", 'session\ninsert 1 "a"\nscan now\n', 'session\ninsert 1 "a"\nflush\ncompact\nscan now\n'):
@@ -121,6 +145,8 @@ ALL = [
     workers_write_many_changes,
     workers_merge_four_files,
     workers_compact_three_rowsets,
+    workers_compact_beside_writes,
+    sessions_that_need_room_beside_compactions,
     workers_end_without_work,
     random_sessions_beside_workers,
 ]
