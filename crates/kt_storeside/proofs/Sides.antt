@@ -8,7 +8,8 @@ use Rattle.kt_super.specs.Body.{IsMeta}
 use Rattle.kt_super.specs.Slots.{super_of, AreStable}
 use Rattle.kt_storeside.specs.Supers.{FilesStand, Publishes, HasSuper, NamedStand}
 use Rattle.kt_storeside.specs.Turns.{IsTurn, HasOneOf}
-use Rattle.kt_storeside.specs.Sides.{StoreView, known_in, lent_in, holder_in, published_in, side_of, HasEither, MayBeLent, IsSide}
+use Rattle.kt_storeside.specs.Sides.{StoreView, known_in, lent_in, holder_in, published_in, side_of, HasEither, SpellLent, LeavesSpelled, SpellMade, IsMade, MayBeLent, IsSide}
+use Rattle.kt_storeside.proofs.Gates.{same_slot}
 use Rattle.kt_storeside.proofs.Named.{first_file}
 use Rattle.kt_storeside.proofs.Standing.{left_above, image_has, still_stand}
 
@@ -17,9 +18,9 @@ module _ {D : Type 0} (tells : Bool) (seen : D → Files) (now : D → ℕ) (lea
   Stands v = IsSide tells seen now leaves faults v
 
   -- a device at home is the known one, and its images have its superblock
-  pub home_is_known : (v : StoreView D) (home : Option D) (whole : Bool) (went : D) (by : ℕ) (meta : Meta) (lent : Option Meta) (nr nf : ℕ) → side_of home whole went by meta lent nr nf ≡ v
+  pub home_is_known : (v : StoreView D) (home : Option D) (whole : Bool) (went : D) (by : ℕ) (meta : Meta) (lent : Option Meta) (nr nf : ℕ) (first : D) → side_of home whole went by meta lent nr nf first ≡ v
       → IsTrue v.whole → (disk : D) → v.home ≡ Some disk → disk ≡ v.known
-  home_is_known v home whole went by meta lent nr nf e is disk at =
+  home_is_known v home whole went by meta lent nr nf first e is disk at =
       subst (λ (w : StoreView D). IsTrue w.whole → w.home ≡ Some disk → disk ≡ w.known) e (known home whole) is at
     where
       known : (h : Option D) (w : Bool) → IsTrue w → h ≡ Some disk → disk ≡ known_in h w went
@@ -47,13 +48,25 @@ module _ {D : Type 0} (tells : Bool) (seen : D → Files) (now : D → ℕ) (lea
   pub named_stand : (m : Meta) (disk : D) → Publishes seen now leaves m disk → NamedStand seen now leaves disk
   named_stand m disk p c left k is = subst (λ (x : Meta). FilesStand seen now leaves x disk) (one_super c m k (published_super m disk p c left) is) p.files
 
+  -- slots of which nothing is pending spell what they read
+  pub stable_spell : (disk : D) (lent : Option Meta) → AreStable seen now leaves disk → LeavesSpelled now leaves (seen disk) lent disk
+  stable_spell disk lent stable c left slot is m told = inl (sym (same_slot slot c (seen disk) (stable slot is c left)) ∙ told)
+
+  -- a superblock that may be lent is one that was made
+  lent_made : (v : StoreView D) (m : Meta) → MayBeLent tells seen now leaves v m → IsMade v.meta.number v.next_rowset v.next_file m
+  lent_made v m may = record { rules = may.next.rules; number = omega (arith, may.next.number); rowsets = may.next.rowsets; files = may.next.files }
+
+  -- each image of a device at home spells what was spelled when the side began, or was made since
+  pub images_made : (v : StoreView D) → Stands v → IsTrue tells → (disk : D) → v.home ≡ Some disk → (c : Files) → leaves disk (now disk) c → SpellMade seen v c
+  images_made v s t disk at c left slot is m told = elim (s.spells disk at t c left slot is m told) [ inl old ↦ s.slots t slot is m old | inr new ↦ inr (lent_made v m (s.lent_is m new)) ]
+
   -- it goes out
-  pub out_stands : (home : Option D) (whole : Bool) (went : D) (by : ℕ) (meta : Meta) (lent : Option Meta) (nr nf : ℕ) (disk : D) (number : ℕ) (later : Option Meta)
-      → Stands (side_of home whole went by meta lent nr nf) → home ≡ Some disk → IsTrue whole
-      → ((m : Meta) → later ≡ Some m → MayBeLent tells seen now leaves (side_of home whole went by meta lent nr nf) m) → Stands (side_of None whole disk number meta later nr nf)
-  out_stands None whole went by meta lent nr nf disk number later s at is may = absurd cc
-  out_stands (Some d) false went by meta lent nr nf disk number later s at is may = absurd cc
-  out_stands (Some d) true went by meta lent nr nf disk number later s at is may = subst (λ (k : D). Stands (side_of None true k number meta later nr nf)) same (record {
+  pub out_stands : (home : Option D) (whole : Bool) (went : D) (by : ℕ) (meta : Meta) (lent : Option Meta) (nr nf : ℕ) (first disk : D) (number : ℕ) (later : Option Meta)
+      → Stands (side_of home whole went by meta lent nr nf first) → home ≡ Some disk → IsTrue whole
+      → ((m : Meta) → later ≡ Some m → MayBeLent tells seen now leaves (side_of home whole went by meta lent nr nf first) m) → Stands (side_of None whole disk number meta later nr nf first)
+  out_stands None whole went by meta lent nr nf first disk number later s at is may = absurd cc
+  out_stands (Some d) false went by meta lent nr nf first disk number later s at is may = absurd cc
+  out_stands (Some d) true went by meta lent nr nf first disk number later s at is may = subst (λ (k : D). Stands (side_of None true k number meta later nr nf first)) same (record {
     rules = s.rules;
     rowsets = s.rowsets;
     files = s.files;
@@ -63,31 +76,38 @@ module _ {D : Type 0} (tells : Bool) (seen : D → Files) (now : D → ℕ) (lea
     broken = λ un other out. absurd cc;
     rose = λ un other out. absurd cc;
     stand = λ other out. absurd cc;
+    slots = s.slots;
+    spells = λ other out. absurd cc;
   })
     where
       same : d ≡ disk
       same = cc
 
   -- which superblock is published once it is home, and what holds of it
-  record IsKept (m : Meta) (nr nf : ℕ) (went : D) : Type 0 where
+  record IsKept (m : Meta) (nr nf old : ℕ) (went : D) : Type 0 where
     rules : IsMeta m
     rowsets : m.next_rowset ≤ nr
     files : m.next_file ≤ nf
+    number : old ≤ m.number
     stand : IsTrue tells → FilesStand seen now leaves m went
 
-  kept : (published : Bool) (went : D) (by : ℕ) (meta : Meta) (lent : Option Meta) (nr nf : ℕ) → Stands (side_of None true went by meta lent nr nf) → IsKept (published_in published lent meta) nr nf went
-  kept true went by meta None nr nf s = record { rules = s.rules; rowsets = s.rowsets; files = s.files; stand = λ t. (s.publishes t).files }
-  kept true went by meta (Some m) nr nf s = let may = s.lent_is m refl in record { rules = may.next.rules; rowsets = may.next.rowsets; files = may.next.files; stand = may.files }
-  kept false went by meta lent nr nf s = record { rules = s.rules; rowsets = s.rowsets; files = s.files; stand = λ t. (s.publishes t).files }
+  kept : (published : Bool) (went : D) (by : ℕ) (meta : Meta) (lent : Option Meta) (nr nf : ℕ) (first : D) → Stands (side_of None true went by meta lent nr nf first) → IsKept (published_in published lent meta) nr nf meta.number went
+  kept true went by meta None nr nf first s = record { rules = s.rules; rowsets = s.rowsets; files = s.files; number = omega arith; stand = λ t. (s.publishes t).files }
+  kept true went by meta (Some m) nr nf first s = let may = s.lent_is m refl in record { rules = may.next.rules; rowsets = may.next.rowsets; files = may.next.files; number = omega (arith, may.next.number); stand = may.files }
+  kept false went by meta lent nr nf first s = record { rules = s.rules; rowsets = s.rowsets; files = s.files; number = omega arith; stand = λ t. (s.publishes t).files }
+
+  -- what was made once stays so
+  made_more : (number more nr nr' nf nf' : ℕ) (m : Meta) → number ≤ more → nr ≤ nr' → nf ≤ nf' → IsMade number nr nf m → IsMade more nr' nf' m
+  made_more number more nr nr' nf nf' m le one two made = record { rules = made.rules; number = omega (arith, made.number, le); rowsets = omega (arith, made.rowsets, one); files = omega (arith, made.files, two) }
 
   -- it comes home
-  pub home_stands : (home : Option D) (whole : Bool) (went : D) (by : ℕ) (meta : Meta) (lent : Option Meta) (nr nf : ℕ) (disk : D) (number : ℕ) (published : Bool) (given : Option Meta) (nr' nf' : ℕ)
-      → Stands (side_of home whole went by meta lent nr nf) → holder_in home by ≡ Some number → IsTrue whole → given ≡ lent_in home whole lent → nr ≤ nr' → nf ≤ nf' → (IsTrue tells → IsTurn seen now leaves nf nf' (known_in home whole went) disk)
+  pub home_stands : (home : Option D) (whole : Bool) (went : D) (by : ℕ) (meta : Meta) (lent : Option Meta) (nr nf : ℕ) (first disk : D) (number : ℕ) (published : Bool) (given : Option Meta) (nr' nf' : ℕ)
+      → Stands (side_of home whole went by meta lent nr nf first) → holder_in home by ≡ Some number → IsTrue whole → given ≡ lent_in home whole lent → nr ≤ nr' → nf ≤ nf' → (IsTrue tells → IsTurn seen now leaves nf nf' (known_in home whole went) disk)
       → (IsTrue tells → super_of (seen disk) ≡ Ok (Some (published_in published given meta))) → (IsTrue tells → AreStable seen now leaves disk)
-      → Stands (side_of (Some disk) whole went by (published_in published given meta) lent nr' nf')
-  home_stands (Some d) whole went by meta lent nr nf disk number published given nr' nf' s out is same le le' turn superblock slots = absurd cc
-  home_stands None false went by meta lent nr nf disk number published given nr' nf' s out is same le le' turn superblock slots = absurd cc
-  home_stands None true went by meta lent nr nf disk number published given nr' nf' s out is same le le' turn superblock slots = record {
+      → (IsTrue tells → SpellLent (seen (known_in home whole went)) given (seen disk)) → Stands (side_of (Some disk) whole went by (published_in published given meta) lent nr' nf' first)
+  home_stands (Some d) whole went by meta lent nr nf first disk number published given nr' nf' s out is same le le' turn superblock stable spell = absurd cc
+  home_stands None false went by meta lent nr nf first disk number published given nr' nf' s out is same le le' turn superblock stable spell = absurd cc
+  home_stands None true went by meta lent nr nf first disk number published given nr' nf' s out is same le le' turn superblock stable spell = record {
     rules = k.rules;
     rowsets = omega (arith, k.rowsets, le);
     files = omega (arith, k.files, le');
@@ -97,32 +117,48 @@ module _ {D : Type 0} (tells : Bool) (seen : D → Files) (now : D → ℕ) (lea
     broken = λ un d at. absurd cc;
     rose = λ un d at. absurd cc;
     stand = λ d at t. subst (λ (x : D). NamedStand seen now leaves x) (at_home d at) (named_stand (published_in published given meta) disk (publishes t));
+    spells = λ d at t. subst (λ (x : D). LeavesSpelled now leaves (seen disk) None x) (at_home d at) (stable_spell disk None (stable t));
+    slots = slots;
   }
     where
-      k : IsKept (published_in published given meta) nr nf went
-      k = subst (λ (o : Option Meta). IsKept (published_in published o meta) nr nf went) (sym same) (kept published went by meta lent nr nf s)
+      k : IsKept (published_in published given meta) nr nf meta.number went
+      k = subst (λ (o : Option Meta). IsKept (published_in published o meta) nr nf meta.number went) (sym same) (kept published went by meta lent nr nf first s)
+
+      -- what a slot spells it spelled before, or it was lent
+      slots : IsTrue tells → SpellMade seen (side_of (Some disk) true went by (published_in published given meta) lent nr' nf' first) (seen disk)
+      slots t slot at m told = elim (spell t slot at m told) [
+        | inl old ↦ elim (s.slots t slot at m old) [
+          | inl began ↦ inl began
+          | inr made ↦ inr (made_more meta.number (published_in published given meta).number nr nr' nf nf' m k.number le le' made)
+        ]
+        | inr new ↦
+            inr (made_more meta.number (published_in published given meta).number nr nr' nf nf' m k.number le le' (lent_made (side_of None true went by meta lent nr nf first) m (s.lent_is m (sym same ∙ new))))
+      ]
 
       publishes : IsTrue tells → Publishes seen now leaves (published_in published given meta) disk
-      publishes t = record { superblock = superblock t; slots = slots t; files = still_stand seen now leaves nf nf' went disk (turn t) (published_in published given meta) k.rules k.files (k.stand t) }
+      publishes t = record { superblock = superblock t; slots = stable t; files = still_stand seen now leaves nf nf' went disk (turn t) (published_in published given meta) k.rules k.files (k.stand t) }
 
       at_home : (d : D) → Some disk ≡ Some d → disk ≡ d
       at_home d at = cc
 
   -- it comes home after a fault
-  pub broken_stands : (home : Option D) (whole : Bool) (went : D) (by : ℕ) (meta : Meta) (lent : Option Meta) (nr nf : ℕ) (disk : D) (number nf' : ℕ)
-      → Stands (side_of home whole went by meta lent nr nf) → holder_in home by ≡ Some number → nf ≤ nf' → (IsTrue tells → IsTurn seen now leaves nf nf' (known_in home whole went) disk)
-      → (IsTrue tells → HasOneOf now leaves meta (published_in true (lent_in home whole lent) meta) disk) → Rose (faults (known_in home whole went)) (faults disk) → Stands (side_of (Some disk) false went by meta lent nr nf)
-  broken_stands (Some d) whole went by meta lent nr nf disk number nf' s out le turn one rose = absurd cc
-  broken_stands None whole went by meta lent nr nf disk number nf' s out le turn one rose = record {
+  pub broken_stands : (home : Option D) (whole : Bool) (went : D) (by : ℕ) (meta : Meta) (lent : Option Meta) (nr nf : ℕ) (first disk : D) (number nf' : ℕ)
+      → Stands (side_of home whole went by meta lent nr nf first) → holder_in home by ≡ Some number → nf ≤ nf' → (IsTrue tells → IsTurn seen now leaves nf nf' (known_in home whole went) disk)
+      → (IsTrue tells → HasOneOf now leaves meta (published_in true (lent_in home whole lent) meta) disk) → (IsTrue tells → LeavesSpelled now leaves (seen (known_in home whole went)) (lent_in home whole lent) disk)
+      → Rose (faults (known_in home whole went)) (faults disk) → Stands (side_of (Some disk) false went by meta lent nr nf first)
+  broken_stands (Some d) whole went by meta lent nr nf first disk number nf' s out le turn one spell rose = absurd cc
+  broken_stands None whole went by meta lent nr nf first disk number nf' s out le turn one spell rose = record {
     rules = s.rules;
     rowsets = s.rowsets;
     files = s.files;
     publishes = s.publishes;
     vacant = s.vacant;
     lent_is = λ m e. record { next = (s.lent_is m e).next; files = (s.lent_is m e).files };
-    broken = λ no d at t c is. subst (λ (k : D). leaves k (now k) c → HasEither seen (side_of (Some disk) false went by meta lent nr nf) c) (same d at) (either t c) is;
+    broken = λ no d at t c is. subst (λ (k : D). leaves k (now k) c → HasEither seen (side_of (Some disk) false went by meta lent nr nf first) c) (same d at) (either t c) is;
     rose = λ un d at. subst (λ (k : D). Rose (faults went) (faults k)) (same d at) rose;
     stand = λ d at t. subst (λ (k : D). NamedStand seen now leaves k) (same d at) (named t);
+    slots = s.slots;
+    spells = λ d at t. subst (λ (k : D). LeavesSpelled now leaves (seen went) lent k) (same d at) (spell t);
   }
     where
       same : (d : D) → Some disk ≡ Some d → disk ≡ d
@@ -145,11 +181,11 @@ module _ {D : Type 0} (tells : Bool) (seen : D → Files) (now : D → ℕ) (lea
         | inr new ↦ subst (λ (x : Meta). FilesStand seen now leaves x disk) (one_super c (published_in true lent meta) k new is) (of_new lent refl t)
       ]
 
-      of_lent : (o : Option Meta) → lent ≡ o → IsTrue tells → (c : Files) → leaves disk (now disk) c → super_of c ≡ Ok (Some (published_in true o meta)) → HasEither seen (side_of (Some disk) false went by meta lent nr nf) c
+      of_lent : (o : Option Meta) → lent ≡ o → IsTrue tells → (c : Files) → leaves disk (now disk) c → super_of c ≡ Ok (Some (published_in true o meta)) → HasEither seen (side_of (Some disk) false went by meta lent nr nf first) c
       of_lent None e t c is told = inl (has t meta s.rules s.files ((s.publishes t).files) c is told)
       of_lent (Some m) e t c is told = let may = s.lent_is m e in inr (m, e, has t m may.next.rules may.next.files (may.files t) c is told)
 
-      either : IsTrue tells → (c : Files) → leaves disk (now disk) c → HasEither seen (side_of (Some disk) false went by meta lent nr nf) c
+      either : IsTrue tells → (c : Files) → leaves disk (now disk) c → HasEither seen (side_of (Some disk) false went by meta lent nr nf first) c
       either t c is = elim (one t c is) [
         | inl old ↦ inl (has t meta s.rules s.files ((s.publishes t).files) c is old)
         | inr new ↦ of_lent lent refl t c is new

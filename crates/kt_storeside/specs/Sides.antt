@@ -1,13 +1,15 @@
 -- What a contract sees of the store of an engine.
-use Rattle.std.specs.Prelude.{◌≡◌, ◌⊎◌, ℕ, ◌≤◌, Bool, true, false, IsTrue, Option, Some, None}
+use Rattle.std.specs.Prelude.{◌≡◌, ◌⊎◌, ℕ, ◌+◌, ◌≤◌, Bool, true, false, IsTrue, Option, Some, None, Ok}
 use Rattle.kt_base.specs.Causes.{Rose}
-use Rattle.kt_disk.specs.Disk.{Files}
+use Rattle.kt_disk.specs.Disk.{Files, held}
 use Rattle.kt_super.specs.declared.meta.Meta.{Meta}
 use Rattle.kt_super.specs.Body.{IsMeta}
+use Rattle.kt_super.specs.Slots.{slot_at, IsSlot}
 use Rattle.kt_storeside.specs.Supers.{FilesStand, Publishes, HasSuper, IsSuccessor, NamedStand}
 
 -- known is the device as it is, or as it last went out; home is the device where it is at home; holder is the pass that has it out. meta is the
--- superblock that is published, and lent the one that went out to be. The next numbers have not been given yet. After a fault it is no longer whole.
+-- superblock that is published, and lent the one that went out to be. The next numbers have not been given yet. After a fault it is no longer whole. first is
+-- the device as it was when the side began.
 pub record StoreView (D : Type 0) : Type 0 where
   pub home : Option D
   pub known : D
@@ -17,6 +19,7 @@ pub record StoreView (D : Type 0) : Type 0 where
   pub next_rowset : ℕ
   pub next_file : ℕ
   pub whole : Bool
+  pub first : D
 
 -- the device as it is, where it is at home and whole, and else as it went out
 abbrev pub known_in : {D : Type 0} → Option D → Bool → D → D
@@ -35,8 +38,8 @@ holder_in None by = Some by
 holder_in (Some disk) by = None
 
 -- the store as its parts are: the device where it is at home, the pass that has it out otherwise, and the device and the superblock as they last went out
-abbrev pub side_of : {D : Type 0} → Option D → Bool → D → ℕ → Meta → Option Meta → ℕ → ℕ → StoreView D
-side_of home whole went by meta lent next_rowset next_file = record { home = home; known = known_in home whole went; holder = holder_in home by; meta = meta; lent = lent_in home whole lent; next_rowset = next_rowset; next_file = next_file; whole = whole }
+abbrev pub side_of : {D : Type 0} → Option D → Bool → D → ℕ → Meta → Option Meta → ℕ → ℕ → D → StoreView D
+side_of home whole went by meta lent next_rowset next_file first = record { home = home; known = known_in home whole went; holder = holder_in home by; meta = meta; lent = lent_in home whole lent; next_rowset = next_rowset; next_file = next_file; whole = whole; first = first }
 
 -- the superblock that is published once the device is home
 abbrev pub published_in : Bool → Option Meta → Meta → Meta
@@ -52,13 +55,34 @@ HasEither seen v c = HasSuper (seen v.known) v.meta c ⊎ ((m : Meta) × (v.lent
 abbrev pub LeavesEither : {D : Type 0} → (D → Files) → (D → ℕ) → (D → ℕ → Files → Type 0) → StoreView D → D → Type 0
 LeavesEither seen now leaves v disk = (c : Files) → leaves disk (now disk) c → HasEither seen v c
 
+-- each open slot of an image spells what it spells in these files, or the superblock that was lent
+abbrev pub SpellLent : Files → Option Meta → Files → Type 0
+SpellLent files lent c = (slot : ℕ) → IsSlot slot → (m : Meta) → slot_at slot (held c slot) ≡ Ok (Some m) → (slot_at slot (held files slot) ≡ Ok (Some m)) ⊎ (lent ≡ Some m)
+
+-- so does each image of a device
+abbrev pub LeavesSpelled : {D : Type 0} → (D → ℕ) → (D → ℕ → Files → Type 0) → Files → Option Meta → D → Type 0
+LeavesSpelled now leaves files lent disk = (c : Files) → leaves disk (now disk) c → SpellLent files lent c
+
 -- a superblock may be lent: it is a successor, and the data files that it names stand
 pub record MayBeLent {D : Type 0} (tells : Bool) (seen : D → Files) (now : D → ℕ) (leaves : D → ℕ → Files → Type 0) (v : StoreView D) (m : Meta) : Type 0 where
   pub next : IsSuccessor v.meta v.next_rowset v.next_file m
   pub files : IsTrue tells → FilesStand seen now leaves m v.known
 
+-- A superblock that was made: it keeps the rules, and has no number that is still to be given
+pub record IsMade (published next_rowset next_file : ℕ) (m : Meta) : Type 0 where
+  pub rules : IsMeta m
+  pub number : m.number ≤ published + 1
+  pub rowsets : m.next_rowset ≤ next_rowset
+  pub files : m.next_file ≤ next_file
+
+-- each open slot of these files spells what it spelled when the side began, or a superblock that was made since
+abbrev pub SpellMade : {D : Type 0} → (D → Files) → StoreView D → Files → Type 0
+SpellMade seen v c = (slot : ℕ) → IsSlot slot → (m : Meta) → slot_at slot (held c slot) ≡ Ok (Some m) → (slot_at slot (held (seen v.first) slot) ≡ Ok (Some m)) ⊎ IsMade v.meta.number v.next_rowset v.next_file m
+
 -- The store stands: the known device publishes its superblock, no file has a number that is still to be given, and what was lent may be. After
--- a fault each image has one of both superblocks. At home nothing is pending of the data files that the superblock of an image names.
+-- a fault each image has one of both superblocks. At home nothing is pending of the data files that the superblock of an image names, and no slot of one
+-- spells another superblock than it spelled as the known device reads, or than the lent one; as that reads, none than when the side began, or than were made
+-- since.
 pub record IsSide {D : Type 0} (tells : Bool) (seen : D → Files) (now : D → ℕ) (leaves : D → ℕ → Files → Type 0) (faults : D → ℕ) (v : StoreView D) : Type 0 where
   pub rules : IsMeta v.meta
   pub rowsets : v.meta.next_rowset ≤ v.next_rowset
@@ -69,3 +93,5 @@ pub record IsSide {D : Type 0} (tells : Bool) (seen : D → Files) (now : D → 
   pub broken : v.whole ≡ false → (disk : D) → v.home ≡ Some disk → IsTrue tells → LeavesEither seen now leaves v disk
   pub rose : v.whole ≡ false → (disk : D) → v.home ≡ Some disk → Rose (faults v.known) (faults disk)
   pub stand : (disk : D) → v.home ≡ Some disk → IsTrue tells → NamedStand seen now leaves disk
+  pub slots : IsTrue tells → SpellMade seen v (seen v.known)
+  pub spells : (disk : D) → v.home ≡ Some disk → IsTrue tells → LeavesSpelled now leaves (seen v.known) v.lent disk

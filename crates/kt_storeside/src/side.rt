@@ -6,7 +6,7 @@ ghost use Rattle.kt_super.specs.Body.{IsMeta};
 ghost use Rattle.kt_super.specs.Slots.{super_of, AreStable};
 ghost use Rattle.kt_storeside.specs.Supers.{Publishes, HasSuper};
 ghost use Rattle.kt_storeside.specs.Turns.{IsLeft, IsTurn, StandsWith, HasOneOf};
-ghost use Rattle.kt_storeside.specs.Sides.{StoreView, IsSide, MayBeLent, published_in};
+ghost use Rattle.kt_storeside.specs.Sides.{StoreView, IsSide, MayBeLent, SpellLent, LeavesSpelled, SpellMade, published_in};
 
 use kt_disk::Disk;
 use kt_super::Meta;
@@ -35,6 +35,7 @@ pub struct StoreSide<D: Disk> {
     next_file: u64,
     went: Snapshot<D>,
     lent: Snapshot<Option<Meta>>,
+    first: Snapshot<D>,
 }
 
 impl<D: Disk> Model for StoreSide<D> {
@@ -42,9 +43,9 @@ impl<D: Disk> Model for StoreSide<D> {
 
     ghost Value = { StoreView D };
 
-    ghost view = { λ s. side_of s.home s.whole s.went.value s.by s.meta s.lent.value s.next_rowset s.next_file };
+    ghost view = { λ s. side_of s.home s.whole s.went.value s.by s.meta s.lent.value s.next_rowset s.next_file s.first.value };
 
-    ghost invariant = { λ s. IsSide D.tells D.seen D.now D.leaves D.faults (side_of s.home s.whole s.went.value s.by s.meta s.lent.value s.next_rowset s.next_file) };
+    ghost invariant = { λ s. IsSide D.tells D.seen D.now D.leaves D.faults (side_of s.home s.whole s.went.value s.by s.meta s.lent.value s.next_rowset s.next_file s.first.value) };
 }
 
 // Puts the device into its empty place.
@@ -78,7 +79,7 @@ impl<D: Disk + Drop> StoreSide<D> {
         requires files { meta.next_file ≤ next_file }
         requires publishes { IsTrue D.tells → Publishes D.seen D.now D.leaves meta device }
         requires vacant { IsTrue D.tells → (n : ℕ) → next_file ≤ n → D.seen device n ≡ None }
-        ensures { result ≡ record { home = Some device; known = device; holder = None; meta = meta; lent = None; next_rowset = next_rowset; next_file = next_file; whole = true } }
+        ensures { result ≡ record { home = Some device; known = device; holder = None; meta = meta; lent = None; next_rowset = next_rowset; next_file = next_file; whole = true; first = device } }
     {
         StoreSide {
             by: 0,
@@ -87,6 +88,7 @@ impl<D: Disk + Drop> StoreSide<D> {
             next_file,
             went: Snapshot::of(&device),
             lent: Snapshot::of(&None),
+            first: Snapshot::of(&device),
             home: Some(device),
             meta,
         }
@@ -119,11 +121,12 @@ impl<D: Disk + Drop> StoreSide<D> {
     }
 
     /// The store stands. What a crash leaves of a device at home is the published superblock with the data files that it names; after a fault (`broken` of
-    /// `IsSide`) that or the one that was lent.
+    /// `IsSide`) that or the one that was lent. No slot of it spells a superblock that it did not spell when the side began, and that was not made since.
     pub fn standing(&self)
         ensures side { IsSide D.tells D.seen D.now D.leaves D.faults self.now }
         ensures whole { IsTrue self.now.whole → (device : D) → self.now.home ≡ Some device → device ≡ self.now.known }
         ensures crash { IsTrue self.now.whole → IsTrue D.tells → (device : D) → self.now.home ≡ Some device → (c : _) → D.leaves device (D.now device) c → HasSuper (D.seen device) self.now.meta c }
+        ensures made { IsTrue D.tells → (device : D) → self.now.home ≡ Some device → (c : _) → D.leaves device (D.now device) c → SpellMade D.seen self.now c }
     {
         // The invariant of this very value says so.
         let _whole = self.whole;
@@ -164,7 +167,8 @@ impl<D: Disk + Drop> StoreSide<D> {
         requires turn { IsTrue D.tells → IsTurn D.seen D.now D.leaves self.old.next_file lent.next_file self.old.known lent.device }
         requires superblock { IsTrue D.tells → super_of (D.seen lent.device) ≡ Ok (Some (published_in published lent.meta self.old.meta)) }
         requires slots { IsTrue D.tells → AreStable D.seen D.now D.leaves lent.device }
-        ensures side { self.new ≡ record { home = Some lent.device; known = lent.device; holder = None; meta = published_in published lent.meta self.old.meta; lent = None; next_rowset = lent.next_rowset; next_file = lent.next_file; whole = true } }
+        requires spells { IsTrue D.tells → SpellLent (D.seen self.old.known) lent.meta (D.seen lent.device) }
+        ensures side { self.new ≡ record self.old { home = Some lent.device; known = lent.device; holder = None; meta = published_in published lent.meta self.old.meta; lent = None; next_rowset = lent.next_rowset; next_file = lent.next_file; whole = true } }
         ensures stands { IsTrue D.tells → (n : ℕ) (bytes : List ℕ) → IsLeft self.old.next_file lent.next_file n → StandsWith D.now D.leaves n bytes self.old.known → StandsWith D.now D.leaves n bytes self.new.known }
     {
         let Lent {
@@ -185,6 +189,7 @@ impl<D: Disk + Drop> StoreSide<D> {
         requires numbers { self.old.next_file ≤ lent.next_file }
         requires turn { IsTrue D.tells → IsTurn D.seen D.now D.leaves self.old.next_file lent.next_file self.old.known lent.device }
         requires one_of { IsTrue D.tells → HasOneOf D.now D.leaves self.old.meta (published_in true self.old.lent self.old.meta) lent.device }
+        requires spells { IsTrue D.tells → LeavesSpelled D.now D.leaves (D.seen self.old.known) self.old.lent lent.device }
         requires rose { Rose (D.faults self.old.known) (D.faults lent.device) }
         ensures { self.new ≡ record self.old { home = Some lent.device; holder = None; whole = false } }
     {

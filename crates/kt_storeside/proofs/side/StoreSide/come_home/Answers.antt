@@ -2,19 +2,20 @@ use Rattle.std.proofs.Common.{◌≡◌, ◌≤◌, Some, IsTrue, sym, subst}
 use Rattle.std.specs.Prelude.{Ok}
 use Rattle.kt_super.specs.Slots.{super_of}
 use Rattle.kt_storeside.specs.Turns.{IsTurn}
-use Rattle.kt_storeside.specs.Sides.{StoreView, side_of, published_in, IsSide}
+use Rattle.kt_storeside.specs.Sides.{StoreView, side_of, published_in, SpellLent, IsSide}
 use Rattle.kt_storeside.proofs.Sides.{home_stands}
 use Rattle.kt_storeside.proofs.side.StoreSide.come_home.Goals as goal
 
 pub invariant_of-self : goal.invariant_of-self
 invariant_of-self g c =
     let s = c.self.inside in
-    let at : (R : StoreView _ → Type 0) → R c.args.self.now → R (side_of s.home s.whole s.went.value s.by s.meta s.lent.value s.next_rowset s.next_file) = λ R r. subst R (sym c.self.view_is) r in
-    subst (λ h. IsSide g.D.Disk.tells g.D.Disk.seen g.D.Disk.now g.D.Disk.leaves g.D.Disk.faults (side_of h s.whole s.went.value s.by c.put_published.new.place s.lent.value c.args.lent.next_rowset c.args.lent.next_file)) (sym c.settle.ensures)
-    (subst (λ m. IsSide g.D.Disk.tells g.D.Disk.seen g.D.Disk.now g.D.Disk.leaves g.D.Disk.faults (side_of (Some c.args.lent.device) s.whole s.went.value s.by m s.lent.value c.args.lent.next_rowset c.args.lent.next_file)) (sym c.put_published.ensures)
-    (home_stands g.D.Disk.tells g.D.Disk.seen g.D.Disk.now g.D.Disk.leaves g.D.Disk.faults s.home s.whole s.went.value s.by s.meta s.lent.value s.next_rowset s.next_file
+    let at : (R : StoreView _ → Type 0) → R c.args.self.now → R (side_of s.home s.whole s.went.value s.by s.meta s.lent.value s.next_rowset s.next_file s.first.value) = λ R r. subst R (sym c.self.view_is) r in
+    subst (λ h. IsSide g.D.Disk.tells g.D.Disk.seen g.D.Disk.now g.D.Disk.leaves g.D.Disk.faults (side_of h s.whole s.went.value s.by c.put_published.new.place s.lent.value c.args.lent.next_rowset c.args.lent.next_file s.first.value)) (sym c.settle.ensures)
+    (subst (λ m. IsSide g.D.Disk.tells g.D.Disk.seen g.D.Disk.now g.D.Disk.leaves g.D.Disk.faults (side_of (Some c.args.lent.device) s.whole s.went.value s.by m s.lent.value c.args.lent.next_rowset c.args.lent.next_file s.first.value)) (sym c.put_published.ensures)
+    (home_stands g.D.Disk.tells g.D.Disk.seen g.D.Disk.now g.D.Disk.leaves g.D.Disk.faults s.home s.whole s.went.value s.by s.meta s.lent.value s.next_rowset s.next_file s.first.value
     c.args.lent.device c.args.number c.args.published c.args.lent.meta c.args.lent.next_rowset c.args.lent.next_file c.self.invariant (at (λ v. v.holder ≡ Some c.args.number) c.requires.out)
     (at (λ v. IsTrue v.whole) c.requires.whole) (at (λ v. c.args.lent.meta ≡ v.lent) c.requires.meta)
     (at (λ v. v.next_rowset ≤ c.args.lent.next_rowset) c.requires.numbers.0) (at (λ v. v.next_file ≤ c.args.lent.next_file) c.requires.numbers.1)
     (at (λ v. IsTrue g.D.Disk.tells → IsTurn g.D.Disk.seen g.D.Disk.now g.D.Disk.leaves v.next_file c.args.lent.next_file v.known c.args.lent.device) c.requires.turn)
-    (at (λ v. IsTrue g.D.Disk.tells → super_of (g.D.Disk.seen c.args.lent.device) ≡ Ok (Some (published_in c.args.published c.args.lent.meta v.meta))) c.requires.superblock) c.requires.slots))
+    (at (λ v. IsTrue g.D.Disk.tells → super_of (g.D.Disk.seen c.args.lent.device) ≡ Ok (Some (published_in c.args.published c.args.lent.meta v.meta))) c.requires.superblock) c.requires.slots
+    (at (λ v. IsTrue g.D.Disk.tells → SpellLent (g.D.Disk.seen v.known) c.args.lent.meta (g.D.Disk.seen c.args.lent.device)) c.requires.spells)))
