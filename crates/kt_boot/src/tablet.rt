@@ -95,9 +95,11 @@ pub fn open_tablet<L: Disk, D: Disk + Drop, C: Clock>(
     ensures removed { IfOk result (λ engine. IsTrue D.tells → (n : ℕ) → is_kept (named_in engine.store.meta.rowsets) n ≡ false → D.seen engine.store.known n ≡ None) }
     ensures stable { IfOk result (λ engine. IsTrue D.tells → AreStable D.seen D.now D.leaves engine.store.known) }
 
-    // It knows the names of its stores and the rowset number that it begins with.
+    // It knows the names of its stores, the numbers that it begins with, and the store as opening left it.
     ensures names { IfOk result (λ engine. engine.found ≡ engine.tablet.names) }
     ensures first_rowset { IfOk result (λ engine. engine.first_rowset ≡ engine.store.next_rowset) }
+    ensures first_file { IfOk result (λ engine. engine.first_file ≡ engine.store.next_file) }
+    ensures first_store { IfOk result (λ engine. engine.store.first ≡ engine.store.known) }
 
     // A rowset gets a number that neither the superblock nor a COMMIT of the log has named, and a file one that the superblock gives next.
     ensures next { IfOk result (λ engine. (engine.store.next_rowset ≡ next_rowset engine.store.meta.next_rowset engine.records) × (engine.store.next_file ≡ engine.store.meta.next_file)) }

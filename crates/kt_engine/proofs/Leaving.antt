@@ -125,13 +125,13 @@ same_stage n v known job had = ap (λ (j : JobView). j.stage) (some_one job know
 -- ---- it comes back
 
 module _ {L D C : Type 0} (log_tells : Bool) (log_seen : L → Files) (log_now : L → ℕ) (log_leaves : L → ℕ → Files → Type 0) (log_faults : L → ℕ) (tells : Bool) (seen : D → Files) (faults : D → ℕ) (view : EngineView L D C)
-    (are : IsEngine log_tells log_seen log_now log_leaves log_faults view × IsStored log_tells log_seen tells seen faults view) (n : ℕ) (job : JobView) (had : job_of n view.upkeep ≡ Some job) (at : job.stage ≡ stage.Outside) (many last : ℕ)
-    (count : many ≡ view.log.known.count + length (view.log.out ++ view.log.queued)) (active : last ≡ first_number view.tablet.names) (upkeep : UpkeepsView) (has : HasUpkeep n (record (upkeep_at n view.upkeep.passes) { job = Some (job_back many last job) }) view.upkeep upkeep)
+    (are : IsEngine log_tells log_seen log_now log_leaves log_faults view × IsStored log_tells log_seen tells seen faults view) (n : ℕ) (job : JobView) (had : job_of n view.upkeep ≡ Some job) (at : job.stage ≡ stage.Outside) (many last : ℕ) (list : List RowSetData)
+    (count : many ≡ view.log.known.count + length (view.log.out ++ view.log.queued)) (active : last ≡ first_number view.tablet.names) (upkeep : UpkeepsView) (has : HasUpkeep n (record (upkeep_at n view.upkeep.passes) { job = Some (job_back many last list job) }) view.upkeep upkeep)
     (same : (upkeep.begun ≡ view.upkeep.begun) × (upkeep.publishing ≡ view.upkeep.publishing)) where
   was : IsOutside view.tablet view.store.meta view.store.lent view.upkeep (view.records ++ are.1.run) job
   was = are.1.outside n job had at
 
-  on_again : JobOn (view.records ++ are.1.run) (job_back many last job)
+  on_again : JobOn (view.records ++ are.1.run) (job_back many last list job)
   on_again =
       let k = are.1.count in
       let c = count in
@@ -141,13 +141,13 @@ module _ {L D C : Type 0} (log_tells : Bool) (log_seen : L → Files) (log_now :
       }
 
   pub back_both : IsEngine log_tells log_seen log_now log_leaves log_faults (record view { upkeep = upkeep }) × IsStored log_tells log_seen tells seen faults (record view { upkeep = upkeep })
-  back_both = free_both log_tells log_seen log_now log_leaves log_faults tells seen faults view upkeep n (record (upkeep_at n view.upkeep.passes) { job = Some (job_back many last job) }) has was.free.0 same are
-      (λ j e. subst (JobOn (view.records ++ are.1.run)) (some_one (job_back many last job) j e) on_again)
-      (λ j e out. absurd (not_outside (job_back many last job).stage refl (ap (λ (x : JobView). x.stage) (some_one (job_back many last job) j e) ∙ out)))
+  back_both = free_both log_tells log_seen log_now log_leaves log_faults tells seen faults view upkeep n (record (upkeep_at n view.upkeep.passes) { job = Some (job_back many last list job) }) has was.free.0 same are
+      (λ j e. subst (JobOn (view.records ++ are.1.run)) (some_one (job_back many last list job) j e) on_again)
+      (λ j e out. absurd (not_outside (job_back many last list job).stage refl (ap (λ (x : JobView). x.stage) (some_one (job_back many last list job) j e) ∙ out)))
 
-  its_takes : TakesInputs (record view { upkeep = upkeep }) (job_back many last job)
+  its_takes : TakesInputs (record view { upkeep = upkeep }) (job_back many last list job)
   its_takes = record {
-    takes = subst (TakesBy (record view { upkeep = upkeep }) (job_back many last job)) (sym was.want_is) (refl, record { some = was.some; there = was.there; first = omega (arith, active) });
+    takes = subst (TakesBy (record view { upkeep = upkeep }) (job_back many last list job)) (sym was.want_is) (refl, record { some = was.some; there = was.there; first = omega (arith, active) });
     left = was.left;
     below = was.below;
     many = count;
@@ -168,11 +168,11 @@ module _ {L D C : Type 0} (log_tells : Bool) (log_seen : L → Files) (log_now :
       (subst (AreApart job.mark) (sym all) (apart_now first content.opens q)))
 
   -- with all that its disk rowsets have now
-  pub has_returned : view.tablet.core.aloft ≡ [] → (list : List RowSetData) → map store_in list ≡ taken_rowsets job.taken view.tablet → map held_in list ≡ files_taken job.taken view.tablet.files → HasReturned tells n job list view (record view { upkeep = upkeep })
-  has_returned calm list stores files = record {
+  pub has_returned : view.tablet.core.aloft ≡ [] → map store_in list ≡ taken_rowsets job.taken view.tablet → map held_in list ≡ files_taken job.taken view.tablet.files → HasReturned tells n job list view (record view { upkeep = upkeep })
+  has_returned calm stores files = record {
     many = many;
-    at = record { upkeep = subst (λ (l : ℕ). HasUpkeep n (record (upkeep_at n view.upkeep.passes) { job = Some (job_back many l job) }) view.upkeep upkeep) active has; begun = same; beside = refl };
-    takes = subst (λ (l : ℕ). TakesInputs (record view { upkeep = upkeep }) (job_back many l job)) active its_takes;
+    at = record { upkeep = subst (λ (l : ℕ). HasUpkeep n (record (upkeep_at n view.upkeep.passes) { job = Some (job_back many l list job) }) view.upkeep upkeep) active has; begun = same; beside = refl };
+    takes = subst (λ (l : ℕ). TakesInputs (record view { upkeep = upkeep }) (job_back many l list job)) active its_takes;
     as_many = was.as_many;
     free = same.1 ∙ was.free.0;
     begun = λ none. was.begun (sym same.0 ∙ none);

@@ -15,14 +15,15 @@ use Rattle.kt_super.specs.Rowsets.{has}
 use Rattle.kt_outputs.specs.Outputs.{ButNumbers}
 use Rattle.kt_content.specs.Rules.{Rules}
 use Rattle.kt_storeside.specs.Supers.{named, FilesStand, BetweenBoth, HasSuper}
-use Rattle.kt_storeside.specs.Sides.{StoreView, HasEither, IsSide}
+use Rattle.kt_storeside.specs.Sides.{StoreView, HasEither, LeavesSpelled, IsSide}
+use Rattle.kt_storeside.proofs.Gates.{same_slot}
 use Rattle.kt_storeside.proofs.Named.{named_between, first_file}
 use Rattle.kt_storeside.proofs.Standing.{left_below}
 use Rattle.kt_engine.specs.Logged.{PlanPasses}
 use Rattle.kt_engine.specs.Engines.{EngineView, IsContent}
 use Rattle.kt_engine.specs.Visits.{lent_of, out_of}
 use Rattle.kt_engine.specs.Stored.{RecoversPair}
-use Rattle.kt_engine.specs.Moments.{HoldsWithStore, IsAppendedTo, AppendsRecover, PublishesLeaveEither, WritesLeaveEither, EitherRecovers}
+use Rattle.kt_engine.specs.Moments.{HoldsWithStore, IsAppendedTo, AppendsRecover, PublishesLeaveEither, WritesLeaveEither, EitherRecovers, LeavesInTurn}
 
 -- ---- calls on the log
 
@@ -112,3 +113,18 @@ module _ {D : Type 0} (tells : Bool) (seen : D → Files) (now : D → ℕ) (lea
         past = run.past;
         keeps = run.keeps;
       }
+
+  -- At its end a turn has spelled no other superblock in a slot than the lent one
+  pub turn_spells : (store : StoreView D) → IsSide tells seen now leaves faults store → IsTrue tells → (next : ℕ) (later : D) → LeavesInTurn seen now leaves store.lent store.next_file next store.known later
+      → LeavesSpelled now leaves (seen store.known) store.lent later
+  turn_spells store side t next later run = by store.lent run
+    where
+      by : (lent : Option Meta) → LeavesInTurn seen now leaves lent store.next_file next store.known later → LeavesSpelled now leaves (seen store.known) lent later
+      by (Some meta) run c left slot is m told = elim ((run.each (now later) c run.later (omega arith) left).slots slot is m told) [ inl was ↦ inl was | inr new ↦ inr (ap Some (sym new)) ]
+      by None run c left slot is m told =
+          let from = run.each (now later) c run.later (omega arith) left in
+          let least = first_file store.meta side.rules in
+          let given = side.files in
+          let low : slot < store.next_file = elim is [ inl one ↦ omega arith | inr two ↦ omega arith ] in
+          let here = from.others slot (inl low) ∙ (side.publishes t).slots slot is from.image from.was_left in
+          inl (sym (same_slot slot c (seen store.known) here) ∙ told)

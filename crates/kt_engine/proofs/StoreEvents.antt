@@ -265,7 +265,7 @@ module _ {L D C : Type 0} (log_tells : Bool) (log_seen : L → Files) (tells : B
 pub home_both : {L D C : Type 0} (log_tells : Bool) (log_seen : L → Files) (log_now : L → ℕ) (log_leaves : L → ℕ → Files → Type 0) (log_faults : L → ℕ) (tells : Bool) (seen : D → Files) (now : D → ℕ) (leaves : D → ℕ → Files → Type 0) (faults : D → ℕ) (view : EngineView L D C)
     → IsSide tells seen now leaves faults view.store → (store : StoreView D) (disk : D) (published : Bool) (lent : Option Meta) (rowset file : ℕ) → IsTrue view.store.whole → lent ≡ view.store.lent → (IsTrue tells → IsTurn seen now leaves view.store.next_file file view.store.known disk)
     → faults view.store.known ≤ faults disk → view.store.next_rowset ≤ rowset → rowset ≤ max view.store.next_rowset (view.first_rowset + most_rowsets)
-    → file ≤ max view.store.next_file (view.first_file + most_files) → store ≡ record { home = Some disk; known = disk; holder = None; meta = published_in published lent view.store.meta; lent = None; next_rowset = rowset; next_file = file; whole = true }
+    → file ≤ max view.store.next_file (view.first_file + most_files) → store ≡ record view.store { home = Some disk; known = disk; holder = None; meta = published_in published lent view.store.meta; lent = None; next_rowset = rowset; next_file = file; whole = true }
     → IsEngine log_tells log_seen log_now log_leaves log_faults view × IsStored log_tells log_seen tells seen faults view
     → IsEngine log_tells log_seen log_now log_leaves log_faults (record view { store = store }) × IsStored log_tells log_seen tells seen faults (record view { store = store })
 home_both log_tells log_seen log_now log_leaves log_faults tells seen now leaves faults view side store disk published lent rowset file whole same turn more given few few_files e is = (

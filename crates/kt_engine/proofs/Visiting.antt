@@ -13,7 +13,7 @@ use Rattle.kt_records.specs.declared.entry.Entry.{Entry}
 use Rattle.kt_pool.specs.Contents.{Contents}
 use Rattle.kt_seatlock.specs.Trails.{Adds}
 use Rattle.kt_histlaws.specs.Core.{Core}
-use Rattle.kt_histlaws.specs.Events.{begun, ended}
+use Rattle.kt_histlaws.specs.Events.{begun, ended, halted}
 use Rattle.kt_histlaws.specs.Parts.{part}
 use Rattle.kt_histlaws.proofs.Parts.{begin_keeps_parts, end_keeps_parts, apply_keeps_parts}
 use Rattle.kt_loglaws.specs.Side.{SideView}
@@ -171,15 +171,15 @@ out_visit n v log home lent = record {
 
 -- Another store, whose superblock has the same columns: of a pass that does not have it before and behind nothing changes
 turn_part : {L D C : Type 0} (n : ℕ) (v : EngineView L D C) (tablet : View C) (store : StoreView D) (upkeep : UpkeepsView) → Adds session_of n v.tablet.core.trail tablet.core.trail → ((k : ℕ) → (k ≡ n → ⊥) → part tablet.core k ≡ part v.tablet.core k) → tablet.places ≡ v.tablet.places
-    → tablet_root v tablet ≡ root_of v → ((k : ℕ) → (k ≡ n → ⊥) → lent_of store.holder store k ≡ None) → ((k : ℕ) → (k ≡ n → ⊥) → lent_of v.store.holder v.store k ≡ None) → store.meta.schema ≡ v.store.meta.schema
+    → tablet_root v tablet ≡ root_of v → ((k : ℕ) → (k ≡ n → ⊥) → lent_of store.holder store k ≡ None) → ((k : ℕ) → (k ≡ n → ⊥) → lent_of v.store.holder v.store k ≡ None) → store.meta.schema ≡ v.store.meta.schema → store.first ≡ v.store.first
     → ((k : ℕ) → (k ≡ n → ⊥) → upkeep_at k upkeep.passes ≡ upkeep_at k v.upkeep.passes) → IsVisit n v (record v { tablet = tablet; store = store; upkeep = upkeep })
-turn_part n v tablet store upkeep line session places root after before columns others = record {
+turn_part n v tablet store upkeep line session places root after before columns began others = record {
   line = line;
   parts = λ k ne i. record {
     pass = record { session = session k ne i; place = place_at k (places i); out = out_of v.log.holder v.log.out k; runs = runs k v.running; upkeep = others k ne i };
     lent = lent_of v.log.holder v.log.known k;
     turn = (after k ne ∙ sym (before k ne)) i;
-    root = record (root i) { columns = columns i };
+    root = record (root i) { columns = columns i; first_store = began i };
   };
 }
 
@@ -190,22 +190,32 @@ others_of : {J : Type 0} (n : ℕ) (holder : Option ℕ) (known : J) → holder 
 others_of n holder known out k ne = ap (λ h. lent_of h known k) out ∙ none_lent n k known ne
 
 -- it went out to this pass, or came home from it, and this pass's maintenance may have changed
-pub turn_out_visit : {L D C : Type 0} (n : ℕ) (v : EngineView L D C) (store : StoreView D) (upkeep : UpkeepsView) → v.store.holder ≡ None → store.holder ≡ Some n → store.meta.schema ≡ v.store.meta.schema → ((k : ℕ) → (k ≡ n → ⊥) → upkeep_at k upkeep.passes ≡ upkeep_at k v.upkeep.passes)
+pub turn_out_visit : {L D C : Type 0} (n : ℕ) (v : EngineView L D C) (store : StoreView D) (upkeep : UpkeepsView) → v.store.holder ≡ None → store.holder ≡ Some n → store.meta.schema ≡ v.store.meta.schema → store.first ≡ v.store.first → ((k : ℕ) → (k ≡ n → ⊥) → upkeep_at k upkeep.passes ≡ upkeep_at k v.upkeep.passes)
     → IsVisit n v (record v { store = store; upkeep = upkeep })
-turn_out_visit n v store upkeep home out columns others =
-    turn_part n v v.tablet store upkeep (inl refl) (λ k ne. refl) refl refl (others_of n store.holder store out) (λ k ne. none_of v.store.holder v.store k home) columns others
+turn_out_visit n v store upkeep home out columns began others =
+    turn_part n v v.tablet store upkeep (inl refl) (λ k ne. refl) refl refl (others_of n store.holder store out) (λ k ne. none_of v.store.holder v.store k home) columns began others
 
-pub turn_home_visit : {L D C : Type 0} (n : ℕ) (v : EngineView L D C) (store : StoreView D) (upkeep : UpkeepsView) → v.store.holder ≡ Some n → store.holder ≡ None → store.meta.schema ≡ v.store.meta.schema → ((k : ℕ) → (k ≡ n → ⊥) → upkeep_at k upkeep.passes ≡ upkeep_at k v.upkeep.passes)
+pub turn_home_visit : {L D C : Type 0} (n : ℕ) (v : EngineView L D C) (store : StoreView D) (upkeep : UpkeepsView) → v.store.holder ≡ Some n → store.holder ≡ None → store.meta.schema ≡ v.store.meta.schema → store.first ≡ v.store.first → ((k : ℕ) → (k ≡ n → ⊥) → upkeep_at k upkeep.passes ≡ upkeep_at k v.upkeep.passes)
     → IsVisit n v (record v { store = store; upkeep = upkeep })
-turn_home_visit n v store upkeep out home columns others =
-    turn_part n v v.tablet store upkeep (inl refl) (λ k ne. refl) refl refl (λ k ne. none_of store.holder store k home) (others_of n v.store.holder v.store out) columns others
+turn_home_visit n v store upkeep out home columns began others =
+    turn_part n v v.tablet store upkeep (inl refl) (λ k ne. refl) refl refl (λ k ne. none_of store.holder store k home) (others_of n v.store.holder v.store out) columns began others
+
+-- it came home from this pass, and the tablet has stopped
+pub stop_visit : {L D C : Type 0} (n : ℕ) (v : EngineView L D C) (tablet : View C) (store : StoreView D) → (v.tablet.core.stopped ≡ false → tablet ≡ record v.tablet { core = halted v.tablet.core }) → (v.tablet.core.stopped ≡ true → tablet ≡ v.tablet)
+    → v.store.holder ≡ Some n → store.holder ≡ None → store.meta.schema ≡ v.store.meta.schema → store.first ≡ v.store.first → IsVisit n v (record v { tablet = tablet; store = store })
+stop_visit n v tablet store stops once out home columns began = elim v.tablet.core.stopped as (λ b. v.tablet.core.stopped ≡ b → IsVisit n v (record v { tablet = tablet; store = store })) [
+  | true ↦ λ is. let same = once is in
+      turn_part n v tablet store v.upkeep (inl (ap (λ t. t.core.trail) same)) (λ k ne. ap (λ t. part t.core k) same) (ap (λ t. t.places) same) (ap (tablet_root v) same) (λ k ne. none_of store.holder store k home) (others_of n v.store.holder v.store out) columns began (λ k ne. refl)
+  | false ↦ λ is. let new = stops is in
+      turn_part n v tablet store v.upkeep (inr (event.Stop, ap (λ t. t.core.trail) new, inr refl)) (λ k ne. ap (λ t. part t.core k) new) (ap (λ t. t.places) new) (ap (tablet_root v) new) (λ k ne. none_of store.holder store k home) (others_of n v.store.holder v.store out) columns began (λ k ne. refl)
+] refl
 
 -- it goes out while a DeltaMemStore of a rowset is frozen
-pub deltas_out_visit : {L D C : Type 0} (n : ℕ) (v : EngineView L D C) (tablet : View C) (names : List Target) (store : StoreView D) (upkeep : UpkeepsView) → tablet ≡ record v.tablet { names = names } → v.store.holder ≡ None → store.holder ≡ Some n → store.meta.schema ≡ v.store.meta.schema
+pub deltas_out_visit : {L D C : Type 0} (n : ℕ) (v : EngineView L D C) (tablet : View C) (names : List Target) (store : StoreView D) (upkeep : UpkeepsView) → tablet ≡ record v.tablet { names = names } → v.store.holder ≡ None → store.holder ≡ Some n → store.meta.schema ≡ v.store.meta.schema → store.first ≡ v.store.first
     → ((k : ℕ) → (k ≡ n → ⊥) → upkeep_at k upkeep.passes ≡ upkeep_at k v.upkeep.passes) → IsVisit n v (record v { tablet = tablet; store = store; upkeep = upkeep })
-deltas_out_visit {L} {D} {C} n v tablet names store upkeep frozen home out columns others =
+deltas_out_visit {L} {D} {C} n v tablet names store upkeep frozen home out columns began others =
     subst (λ (t : View C). IsVisit n v (record v { tablet = t; store = store; upkeep = upkeep })) (sym frozen)
-    (turn_part n v (record v.tablet { names = names }) store upkeep (inl refl) (λ k ne. refl) refl refl (others_of n store.holder store out) (λ k ne. none_of v.store.holder v.store k home) columns others)
+    (turn_part n v (record v.tablet { names = names }) store upkeep (inl refl) (λ k ne. refl) refl refl (others_of n store.holder store out) (λ k ne. none_of v.store.holder v.store k home) columns began others)
 
 -- ---- what a pass has of maintenance
 

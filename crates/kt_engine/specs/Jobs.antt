@@ -49,6 +49,7 @@ pub record JobView : Type 0 where
   pub rowset : ℕ
   pub dms : ℕ
   pub read : Option RowSetData
+  pub returned : Option (List RowSetData)
   pub output : Option RowSetData
 
 -- What a job takes once its superblock is published: disk rowsets, or the frozen MemRowSets where it has none

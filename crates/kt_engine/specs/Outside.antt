@@ -10,6 +10,7 @@ use Rattle.kt_rowfiles.specs.Files.{hist_in_files}
 use Rattle.kt_content.specs.Flushes.{before}
 use Rattle.kt_content.specs.RunEvents.{RecordsBelow, RowsBelow}
 use Rattle.kt_pick.specs.declared.rules.Want.TheVariants as want
+use Rattle.kt_diskrowset.specs.declared.data.RowSetData.{RowSetData}
 use Rattle.kt_diskrowset.specs.declared.inputs.Inputs.{Inputs}
 use Rattle.kt_diskrowset.specs.Held.{files_told}
 use Rattle.kt_diskrowset.specs.Rowset.{HeldFiles}
@@ -70,6 +71,6 @@ pub record IsOutside {C : Type 0} (v : View C) (meta : Meta) (lent : Option Meta
   pub apart : (first : Past) → Opens v.opening v.mark v.core.opened first → (q : List ℕ) → AreApart job.mark (hists_of q inputs) × AllUnder (suc job.bound) (hists_of q inputs)
   pub upto : (first : Past) → Opens v.opening v.mark v.core.opened first → AllByRecursion (AreUpToInFiles job.bound) (files_taken job.taken v.files)
 
--- the job of a pass is back, with all records counted and the MemRowSet that takes inserts now
-abbrev pub job_back : ℕ → ℕ → JobView → JobView
-job_back many last job = record job { stage = stage.Read; many = many; last_mem = last }
+-- the job of a pass is back, with all records counted, the MemRowSet that takes inserts now, and what its disk rowsets have, which was handed out
+abbrev pub job_back : ℕ → ℕ → List RowSetData → JobView → JobView
+job_back many last list job = record job { stage = stage.Read; many = many; last_mem = last; returned = Some list }

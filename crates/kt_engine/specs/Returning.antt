@@ -36,8 +36,8 @@ pub record LeavesAs {C : Type 0} (v : View C) (job : JobView) : Type 0 where
 -- A job goes on in this visit, while nothing flies: this is all that its disk rowsets have now. It may publish what it took with it, once its outputs have what came later
 pub record HasReturned {L D C : Type 0} (tells : Bool) (n : ℕ) (job : JobView) (list : List RowSetData) (old new : EngineView L D C) : Type 0 where
   pub many : ℕ
-  pub at : AtNewStage n (job_back many (first_number old.tablet.names) job) old new
-  pub takes : TakesInputs new (job_back many (first_number old.tablet.names) job)
+  pub at : AtNewStage n (job_back many (first_number old.tablet.names) list job) old new
+  pub takes : TakesInputs new (job_back many (first_number old.tablet.names) list job)
   pub as_many : length new.tablet.names ≡ length new.tablet.core.stores
   pub free : new.upkeep.publishing ≡ None
   pub begun : new.upkeep.begun ≢ 0

@@ -35,6 +35,7 @@ job_in w j = record {
   rowset = j.rowset;
   dms = j.dms;
   read = kept_in j.read;
+  returned = kept_in j.returned;
   output = j.output;
 }
 

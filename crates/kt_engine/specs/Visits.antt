@@ -62,6 +62,7 @@ pub record Root (L D C : Type 0) : Type 0 where
   pub found : List Target
   pub first_rowset : ℕ
   pub first_file : ℕ
+  pub first_store : D
 
 abbrev pub root_of : {L D C : Type 0} → EngineView L D C → Root L D C
 root_of view = record {
@@ -78,6 +79,7 @@ root_of view = record {
   found = view.found;
   first_rowset = view.first_rowset;
   first_file = view.first_file;
+  first_store = view.store.first;
 }
 
 -- the log or the store as it went out, if this pass has it

@@ -167,6 +167,7 @@ impl<L: Disk, D: Disk + Drop, C: Clock> Engine<L, D, C> {
             rowset,
             dms: 0,
             read: None,
+            returned: None,
             output: None,
         };
         self.upkeep.begin(number, asked, job)

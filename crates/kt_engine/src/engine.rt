@@ -20,7 +20,7 @@ ghost use Rattle.kt_files.specs.Named.{AreNamed as AreEachNamed};
 ghost use Rattle.kt_files.specs.Reading.{HoldAll};
 ghost use Rattle.kt_reopen.specs.Both.{super_in};
 ghost use Rattle.kt_reopen.specs.Opened.{AreReadOf};
-ghost use Rattle.kt_storeside.specs.Sides.{IsSide};
+ghost use Rattle.kt_storeside.specs.Sides.{IsSide, SpellMade};
 ghost use Rattle.kt_engine.specs.Engines.{EngineView, IsEngine, IsLogged, IsHome, KeepsOthers, TellsStop, LeavesRecords, Recovers, RecoversEach, RecoversAll, are_whole};
 ghost use Rattle.kt_engine.specs.Near.{first_number};
 ghost use Rattle.kt_engine.specs.Stored.{next_given, AreMarked, IsStored, RecoversPair, RecoversBoth, HasFailed};
@@ -266,6 +266,7 @@ impl<L: Disk, D: Disk + Drop, C: Clock> Engine<L, D, C> {
         ensures recovers_both { RecoversBoth L.tells L.now L.leaves D.tells D.now D.leaves self.now }
         ensures recovers_all_of_both { IsTrue L.tells → IsTrue D.tells → RecoversAllOfBoth L.now L.leaves D.now D.leaves self.now }
         ensures published { IsTrue D.tells → LeavesPublished D.seen D.now D.leaves self.now }
+        ensures made { IsTrue D.tells → (disk : D) → self.now.store.home ≡ Some disk → (image : _) → D.leaves disk (D.now disk) image → SpellMade D.seen self.now.store image }
         ensures marked { AreMarked self.now }
         ensures failed { HasFailed L.faults D.faults self.now }
         ensures placed { map (λ p. p.0) self.now.tablet.places ≡ map (λ w. w.s) self.now.tablet.core.aloft }

@@ -429,6 +429,7 @@ impl<L: Disk, D: Disk + Drop, C: Clock> Engine<L, D, C> {
             rowset: 0,
             dms: 0,
             read: None,
+            returned: None,
             output: None,
         };
         self.tablet.standing();
@@ -466,6 +467,7 @@ impl<L: Disk, D: Disk + Drop, C: Clock> Engine<L, D, C> {
             rowset: 0,
             dms: 0,
             read: None,
+            returned: None,
             output: None,
         };
         self.tablet.standing();
@@ -618,8 +620,10 @@ impl<L: Disk, D: Disk + Drop, C: Clock> Engine<L, D, C> {
         let list = self.tablet.read_taken(alloc, job.taken.as_slice())?;
         let many = self.log.count();
         let last_mem = self.tablet.active_number();
-        self.upkeep.come_back(number, many, last_mem);
-        Ok(RowSetList::of(list))
+        let now = RowSetList::of(list);
+        let returned = Snapshot::of(&now);
+        self.upkeep.come_back(number, many, last_mem, returned);
+        Ok(now)
     }
 
     /// A job that was outside goes on in this visit, once nothing flies. It hands out all that its disk rowsets have now.

@@ -153,7 +153,11 @@ impl<L: Disk, D: Disk + Drop, C: Clock> Engine<L, D, C> {
         self.tablet.stop();
         match device {
             Broken::Log(batch) => self.log.broken(number, batch),
-            Broken::Store(lent) => self.store.come_broken(number, lent),
+            Broken::Store(lent) => {
+                // The published superblock and the one that is lent keep their rules.
+                self.store.standing();
+                self.store.come_broken(number, lent)
+            }
         }
     }
 }

@@ -256,7 +256,7 @@ impl<L: Disk, D: Disk + Drop, C: Clock> Engine<L, D, C> {
         requires near_files { lent.next_file ≤ max self.old.store.next_file (self.old.first_file + most_files) }
         ensures visit { IsVisit number self.old self.new }
         ensures columns { self.new.store.meta.schema ≡ self.old.store.meta.schema }
-        ensures home { self.new ≡ record self.old { store = record { home = Some lent.device; known = lent.device; holder = None; meta = published_in published lent.meta self.old.store.meta; lent = None; next_rowset = lent.next_rowset; next_file = lent.next_file; whole = true }; upkeep = self.new.upkeep } }
+        ensures home { self.new ≡ record self.old { store = record self.old.store { home = Some lent.device; known = lent.device; holder = None; meta = published_in published lent.meta self.old.store.meta; lent = None; next_rowset = lent.next_rowset; next_file = lent.next_file; whole = true }; upkeep = self.new.upkeep } }
         ensures upkeep { (lent.meta ≡ None) ⊎ (self.old.upkeep.publishing ≡ None) → self.new.upkeep ≡ self.old.upkeep }
         ensures came { (job : JobView) (m : MetaSpec) → lent.meta ≡ Some m → self.old.upkeep.publishing ≡ Some number → job_of number self.old.upkeep ≡ Some job → HasComeHome number job published self.old.upkeep self.new.upkeep }
     {

@@ -13,7 +13,7 @@ ghost use Rattle.kt_engine.specs.Upkeeps.{upkeep_of, job_in, IsThere};
 
 use crate::outputs::JobOutputs;
 use kt_base::{Chore, NoMemory};
-use kt_diskrowset::{Inputs, RowSetData};
+use kt_diskrowset::{Inputs, RowSetData, RowSetList};
 use kt_pick::Want;
 use kt_policy::IdList;
 use std::alloc::Global;
@@ -77,6 +77,8 @@ pub struct Job {
     pub rowset: u64,
     pub dms: u64,
     pub read: Option<Snapshot<RowSetData>>,
+    /// What its disk rowsets had as it came back from outside the lock, for contracts alone.
+    pub returned: Option<Snapshot<RowSetList>>,
     pub output: Option<RowSetData>,
 }
 
@@ -249,15 +251,16 @@ impl Upkeep {
         }
     }
 
-    // Its job is back, with so many records in the log, and this MemRowSet takes inserts.
-    fn come_back(&mut self, many: u64, last_mem: u64)
-        ensures own { (job : JobView) → (upkeep_of self.old).1.job ≡ Some job → (upkeep_of self.new).1 ≡ record (upkeep_of self.old).1 { job = Some (job_back many last_mem job) } }
+    // Its job is back, with so many records in the log, and this MemRowSet takes inserts. Its disk rowsets were handed out as they are.
+    fn come_back(&mut self, many: u64, last_mem: u64, returned: Snapshot<RowSetList>)
+        ensures own { (job : JobView) → (upkeep_of self.old).1.job ≡ Some job → (upkeep_of self.new).1 ≡ record (upkeep_of self.old).1 { job = Some (job_back many last_mem returned.value job) } }
         ensures pass { self.new.pass ≡ self.old.pass }
     {
         if let Some(job) = &mut self.job {
             job.stage = Stage::Read;
             job.many = many;
             job.last_mem = last_mem;
+            job.returned = Some(returned);
         }
     }
 
@@ -486,16 +489,16 @@ impl Upkeeps {
         self.passes[at].read(bound, mark, inputs);
     }
 
-    /// It is back from outside the lock, with so many records in the log, and this MemRowSet takes inserts.
-    pub fn come_back(&mut self, pass: u32, many: u64, last_mem: u64)
+    /// It is back from outside the lock, with so many records in the log, and this MemRowSet takes inserts. Its disk rowsets were handed out as they are.
+    pub fn come_back(&mut self, pass: u32, many: u64, last_mem: u64, returned: Snapshot<RowSetList>)
         requires job { (job : JobView) × (job_of pass self.old ≡ Some job) }
-        ensures own { (job : JobView) → job_of pass self.old ≡ Some job → HasUpkeep pass (record (upkeep_at pass self.old.passes) { job = Some (job_back many last_mem job) }) self.old self.new }
+        ensures own { (job : JobView) → job_of pass self.old ≡ Some job → HasUpkeep pass (record (upkeep_at pass self.old.passes) { job = Some (job_back many last_mem returned.value job) }) self.old self.new }
         ensures begun { (self.new.begun ≡ self.old.begun) × (self.new.publishing ≡ self.old.publishing) }
     {
         let Some(at) = self.place(pass) else {
             return;
         };
-        self.passes[at].come_back(many, last_mem);
+        self.passes[at].come_back(many, last_mem, returned);
     }
 
     /// Whether a job is outside the lock.

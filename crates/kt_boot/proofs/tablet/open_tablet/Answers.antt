@@ -359,3 +359,13 @@ returns-in-Ok-of-2-clause-stable g c = λ told.
 pub returns-clause-log_others_err : goal.returns-clause-log_others_err
 returns-clause-log_others_err g c = λ told n other.
     subst (λ d. g.L.Disk.seen d n ≡ g.L.Disk.seen c.args.log n) (sym (c.given_up-in-Err-of-2.ensures.log ∙ ap (λ j. j.disk) c.in-Err-of-2.ensures.back.1)) (c.in-Ok.ensures.log_others told n other)
+
+pub returns-in-Ok-of-2-clause-first_file : goal.returns-in-Ok-of-2-clause-first_file
+returns-in-Ok-of-2-clause-first_file g c =
+    let view = c.in-Ok-of-2.ensures.view in
+    ap (λ e. e.first_file) view ∙ sym (ap (λ e. e.store.next_file) view)
+
+pub returns-in-Ok-of-2-clause-first_store : goal.returns-in-Ok-of-2-clause-first_store
+returns-in-Ok-of-2-clause-first_store g c =
+    let store : c.in-Ok-of-2.engine.store ≡ c.of-side.result = ap (λ e. e.store) c.in-Ok-of-2.ensures.view in
+    rw (store, c.of-side.ensures) refl

@@ -28,5 +28,5 @@ returns-clause-visit g c =
     let may = rw old at c.requires.may in
     let tablet = rw c.deref_mut.ensures.value at c.in_ok-freeze_deltas.ensures.frozen in
     let store = rw c.deref_mut-2.ensures.value at c.lend-lent.ensures.side in
-    let visit = deltas_out_visit c.args.number _ c.freeze_deltas.new.self _ c.lend-lent.new.self c.publish.new.self tablet (rw old at c.requires.home) (ap (λ s. s.holder) store) (ap (λ s. s.meta.schema) store) (c.publish.ensures.own may.0 may.1.1).others in
+    let visit = deltas_out_visit c.args.number _ c.freeze_deltas.new.self _ c.lend-lent.new.self c.publish.new.self tablet (rw old at c.requires.home) (ap (λ s. s.holder) store) (ap (λ s. s.meta.schema) store) (ap (λ s. s.first) store) (c.publish.ensures.own may.0 may.1.1).others in
     visit_of c.args.number _ _ _ c.self.view_is visit

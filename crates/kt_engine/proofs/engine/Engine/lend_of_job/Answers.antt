@@ -38,4 +38,4 @@ returns-clause-visit g c =
     let store = rw c.deref_mut.ensures.value at c.lend-lent.ensures.side in
     let job = rw old at c.requires.job in
     visit_of c.args.number _ _ _ c.self.view_is
-    (turn_out_visit c.args.number _ c.lend-lent.new.self c.publish.new.self (rw old at c.requires.home) (ap (λ s. s.holder) store) (ap (λ s. s.meta.schema) store) (c.publish.ensures.own job.0 job.1).others)
+    (turn_out_visit c.args.number _ c.lend-lent.new.self c.publish.new.self (rw old at c.requires.home) (ap (λ s. s.holder) store) (ap (λ s. s.meta.schema) store) (ap (λ s. s.first) store) (c.publish.ensures.own job.0 job.1).others)

@@ -53,7 +53,7 @@ pub returns-clause-visit : goal.returns-clause-visit
 returns-clause-visit g c =
     let store = rw c.deref_mut.ensures.value at c.lend.ensures.side in
     visit_of c.args.number _ _ _ c.self.view_is
-    (turn_out_visit c.args.number _ c.lend.new.self c.self.inside.upkeep (rw (sym c.self.view_is) at c.requires.home) (ap (λ s. s.holder) store) (ap (λ s. s.meta.schema) store) (λ k ne. refl))
+    (turn_out_visit c.args.number _ c.lend.new.self c.self.inside.upkeep (rw (sym c.self.view_is) at c.requires.home) (ap (λ s. s.holder) store) (ap (λ s. s.meta.schema) store) (ap (λ s. s.first) store) (λ k ne. refl))
 
 pub returns-then-is_of_job-clause-visit : goal.returns-then-is_of_job-clause-visit
 returns-then-is_of_job-clause-visit g c = c.lend_of_job.ensures.visit

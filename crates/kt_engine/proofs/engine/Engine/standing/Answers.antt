@@ -1,6 +1,8 @@
-use Rattle.std.proofs.Common.{◌≡◌, Some, None, subst, ◌+◌, ◌++◌, length}
+use Rattle.std.proofs.Common.{◌≡◌, IsTrue, Some, None, subst, ◌+◌, ◌++◌, length}
 use Rattle.std.specs.List.{All}
+use Rattle.kt_disk.specs.Disk.{Files}
 use Rattle.kt_journal.specs.Open.{JournalView}
+use Rattle.kt_storeside.specs.Sides.{SpellMade}
 use Rattle.kt_loglaws.specs.Side.{all_of}
 use Rattle.kt_engine.specs.Logged.{IsPlaced, IsThere}
 use Rattle.kt_engine.specs.Engines.{EngineView, IsEngine, LeavesRecords, Recovers, RecoversEach, RecoversAll}
@@ -94,3 +96,7 @@ returns-clause-marked g c =
     let s = c.standing-2.ensures in
     subst (λ (v : EngineView _ _ _). AreMarked v) c.self.view_is
     (are_marked g.L.Disk.tells g.L.Disk.seen g.L.Disk.now g.L.Disk.leaves g.L.Disk.faults g.D.Disk.tells g.D.Disk.seen g.D.Disk.now g.D.Disk.leaves g.D.Disk.faults _ c.self.invariant.0 c.self.invariant.1 (rw c.deref-4.ensures at s.whole) (rw c.deref-4.ensures at s.crash))
+
+pub returns-clause-made : goal.returns-clause-made
+returns-clause-made g c =
+    subst (λ (v : EngineView _ _ _). IsTrue g.D.Disk.tells → (disk : _) → v.store.home ≡ Some disk → (image : Files) → g.D.Disk.leaves disk (g.D.Disk.now disk) image → SpellMade g.D.Disk.seen v.store image) c.self.view_is (rw c.deref-4.ensures at c.standing-2.ensures.made)

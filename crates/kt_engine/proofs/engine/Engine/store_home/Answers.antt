@@ -1,4 +1,8 @@
-use Rattle.std.proofs.Common.{◌≡◌, refl, sym, ap, ◌∙◌}
+use Rattle.std.proofs.Common.{◌≡◌, Option, refl, sym, ap, subst, ◌∙◌}
+use Rattle.kt_disk.specs.Disk.{Files}
+use Rattle.kt_super.specs.declared.meta.Meta.{Meta}
+use Rattle.kt_storeside.specs.Sides.{SpellLent}
+use Rattle.kt_engine.proofs.Moments.{turn_spells}
 use Rattle.kt_engine.proofs.JobBoth.{its_job, older_than, came_both}
 use Rattle.kt_engine.proofs.StoreEvents.{home_both}
 use Rattle.kt_engine.proofs.StorePurposes.{same_columns}
@@ -53,14 +57,14 @@ returns-then-not-publishes-clause-visit g c =
     let old = sym c.self.view_is in
     let store = rw c.deref_mut.ensures.value at c.come_home.ensures.side in
     let columns = ap (λ s. s.meta.schema) store ∙ same_columns c.args.published c.args.lent.meta c.self.inside.store.value (rw old at c.requires.meta) c.self.invariant.1.columns in
-    visit_of c.args.number _ _ _ c.self.view_is (turn_home_visit c.args.number _ c.come_home.new.self c.self.inside.upkeep (rw old at c.requires.out) (ap (λ s. s.holder) store) columns (λ k ne. refl))
+    visit_of c.args.number _ _ _ c.self.view_is (turn_home_visit c.args.number _ c.come_home.new.self c.self.inside.upkeep (rw old at c.requires.out) (ap (λ s. s.holder) store) columns (ap (λ s. s.first) store) (λ k ne. refl))
 
 pub returns-then-not-is_publishing-clause-visit : goal.returns-then-not-is_publishing-clause-visit
 returns-then-not-is_publishing-clause-visit g c =
     let old = sym c.self.view_is in
     let store = rw c.deref_mut.ensures.value at c.come_home.ensures.side in
     let columns = ap (λ s. s.meta.schema) store ∙ same_columns c.args.published c.args.lent.meta c.self.inside.store.value (rw old at c.requires.meta) c.self.invariant.1.columns in
-    visit_of c.args.number _ _ _ c.self.view_is (turn_home_visit c.args.number _ c.come_home.new.self c.self.inside.upkeep (rw old at c.requires.out) (ap (λ s. s.holder) store) columns (λ k ne. refl))
+    visit_of c.args.number _ _ _ c.self.view_is (turn_home_visit c.args.number _ c.come_home.new.self c.self.inside.upkeep (rw old at c.requires.out) (ap (λ s. s.holder) store) columns (ap (λ s. s.first) store) (λ k ne. refl))
 
 pub returns-clause-visit : goal.returns-clause-visit
 returns-clause-visit g c =
@@ -69,4 +73,14 @@ returns-clause-visit g c =
     let columns = ap (λ s. s.meta.schema) store ∙ same_columns c.args.published c.args.lent.meta c.self.inside.store.value (rw old at c.requires.meta) c.self.invariant.1.columns in
     let own = its_job c.args.lent.meta c.self.inside.upkeep.publishing (sym c.is_some-publishes.ensures ∙ c.if-not-publishes.false) (sym c.is_publishing.ensures ∙ c.if-not-is_publishing.false) (rw old at c.requires.job) in
     visit_of c.args.number _ _ _ c.self.view_is
-    (turn_home_visit c.args.number _ c.come_home.new.self c.come_home-2.new.self (rw old at c.requires.out) (ap (λ s. s.holder) store) columns (c.come_home-2.ensures.own own.1.0 own.1.1).others)
+    (turn_home_visit c.args.number _ c.come_home.new.self c.come_home-2.new.self (rw old at c.requires.out) (ap (λ s. s.holder) store) columns (ap (λ s. s.first) store) (c.come_home-2.ensures.own own.1.0 own.1.1).others)
+
+-- no slot spells another superblock than the lent one
+pub come_home-requires-clause-spells : goal.come_home-requires-clause-spells
+come_home-requires-clause-spells g c = λ told.
+    let old = sym c.self.view_is in
+    let side = rw c.deref.ensures at c.standing.ensures.side in
+    let store = c.self.inside.store.value in
+    let device = c.args.lent.device in
+    let spelled = turn_spells g.D.Disk.tells g.D.Disk.seen g.D.Disk.now g.D.Disk.leaves g.D.Disk.faults _ side told c.args.lent.next_file device (rw old at (c.requires.moments told)) (g.D.Disk.seen device) (g.met.D.Disk.reads_as_image device told) in
+    rw (c.deref_mut.ensures.value) (subst (λ (o : Option Meta). SpellLent (g.D.Disk.seen store.known) o (g.D.Disk.seen device)) (sym (rw old at c.requires.meta)) spelled)

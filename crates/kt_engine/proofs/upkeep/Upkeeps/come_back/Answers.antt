@@ -20,4 +20,4 @@ returns-clause-own c = λ job has.
     let x = c.index_mut.result.now in
     let there = rw old at c.in-Some.ensures in
     let mine = job_at us c.in-Some.at c.args.pass x c.index_mut.ensures.value there.0 there.1 job c.self.invariant (rw old at has) in
-    rw old (changed_at us c.in-Some.at c.args.pass x c.index_mut.ensures.value there.0 there.1 (λ (u : UpkeepView). record u { job = Some (job_back c.args.many c.args.last_mem job) }) c.come_back.new.self _ _ _ _ c.come_back.ensures.pass c.self.invariant (c.come_back.ensures.own job mine))
+    rw old (changed_at us c.in-Some.at c.args.pass x c.index_mut.ensures.value there.0 there.1 (λ (u : UpkeepView). record u { job = Some (job_back c.args.many c.args.last_mem c.args.returned.value job) }) c.come_back.new.self _ _ _ _ c.come_back.ensures.pass c.self.invariant (c.come_back.ensures.own job mine))
