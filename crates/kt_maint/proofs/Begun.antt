@@ -20,7 +20,7 @@ use Rattle.kt_maint.specs.Done.{GivesFor}
 use Rattle.kt_engine.specs.declared.job.MaintNo.{MaintNo}
 use Rattle.kt_engine.specs.declared.job.MaintNo.TheVariants as no
 use Rattle.kt_maint.specs.Runs.{KeepsAsks, IsReady, JobIsAt, HasNoDevice, StandsAs, HasRun, RunsAs, AddsStop, is_pass, turn_of}
-use Rattle.kt_maint.specs.Outside.{EndsAs, HasEnded, LeftAs, StartsAs, ended}
+use Rattle.kt_maint.specs.Outside.{EndsAs, EndsRead, HasEnded, HasReadTheSame, KeepsRead, LeftAs, StartsAs, ended}
 use Rattle.kt_maint.specs.declared.jobs.Start.{Start}
 use Rattle.kt_maint.specs.declared.jobs.Start.TheVariants as start
 use Rattle.kt_maint.specs.declared.tries.Turn.{Turn}
@@ -173,25 +173,25 @@ has_run n a b c w begun h = record { job = h.job; upkeep = h.upkeep ∙ ap (ende
 
 -- however it ended
 pub runs_then : {L D C : Type 0} (n : ℕ) (a b c : EngineView L D C) (w : Want) (no : MaintNo) → EndsAs n w b c (Err no) → RunsAs n w a c (turn_of no)
-runs_then n a b c w no.Memory h = h
+runs_then n a b c w no.Memory h = (h.0, λ none. h.1)
 runs_then n a b c w no.Stopped h = h
 
 -- where the job is carried out, and closed
 module _ {L D C : Type 0} (n : ℕ) (a b c : EngineView L D C) (w : Want) (carried result : Result (Unit {0}) MaintNo) where
   pub ends_as_carried : result ≡ carried → c.log ≡ b.log → c.store ≡ b.store → is_pass b.log.holder n ≡ false → b.store.holder ≡ None → (carried ≢ Err no.Stopped → KeepsAsks n a.upkeep b.upkeep) → OnOk carried (MayEnd b n w) → (result ≡ Err no.Stopped → c ≡ b)
-      → (carried ≡ Err no.Stopped → b.tablet.core.stopped ≡ true) → OnOk result ((x : Want) → MayEnd b n x → HasEnded n x b c) → EndsAs n w a c result
-  ends_as_carried same log store free home asks may still stops ended = by carried same asks may stops result refl ended still
+      → (carried ≡ Err no.Stopped → b.tablet.core.stopped ≡ true) → OnOk result ((x : Want) → MayEnd b n x → HasEnded n x b c) → (result ≡ Err no.Memory → job_of n c.upkeep ≡ None) → EndsAs n w a c result
+  ends_as_carried same log store free home asks may still stops ended none = by carried same asks may stops result refl ended still none
     where
       away : HasNoDevice n c
       away = record { log = ap (λ l. is_pass l.holder n) log ∙ free; store = none_has c.store.holder n (ap (λ s. s.holder) store ∙ home) }
 
       by : (x : Result (Unit {0}) MaintNo) → result ≡ x → (x ≢ Err no.Stopped → KeepsAsks n a.upkeep b.upkeep) → OnOk x (MayEnd b n w) → (x ≡ Err no.Stopped → b.tablet.core.stopped ≡ true) → (r : Result (Unit {0}) MaintNo) → r ≡ result → OnOk r ((y : Want) → MayEnd b n y → HasEnded n y b c)
-          → (r ≡ Err no.Stopped → c ≡ b) → EndsAs n w a c r
-      by (Ok done) is keeps may stops (Ok also) e ended still = (ended_then n a b c w (keeps (λ h. cc)) (ended w may), away)
-      by (Ok done) is keeps may stops (Err e) i ended still = let never : ◌≡◌ {A = Result (Unit {0}) MaintNo} (Err e) (Ok done) = i ∙ is in absurd cc
-      by (Err x) is keeps may stops (Ok also) e ended still = let never : ◌≡◌ {A = Result (Unit {0}) MaintNo} (Ok also) (Err x) = e ∙ is in absurd cc
-      by (Err x) is keeps may stops (Err no.Memory) e ended still = away
-      by (Err x) is keeps may stops (Err no.Stopped) e ended still = (ap (λ (v : EngineView L D C). v.tablet.core.stopped) (still refl) ∙ stops (sym (e ∙ is)), away)
+          → (r ≡ Err no.Stopped → c ≡ b) → (r ≡ Err no.Memory → job_of n c.upkeep ≡ None) → EndsAs n w a c r
+      by (Ok done) is keeps may stops (Ok also) e ended still none = (ended_then n a b c w (keeps (λ h. cc)) (ended w may), away)
+      by (Ok done) is keeps may stops (Err e) i ended still none = let never : ◌≡◌ {A = Result (Unit {0}) MaintNo} (Err e) (Ok done) = i ∙ is in absurd cc
+      by (Err x) is keeps may stops (Ok also) e ended still none = let never : ◌≡◌ {A = Result (Unit {0}) MaintNo} (Ok also) (Err x) = e ∙ is in absurd cc
+      by (Err x) is keeps may stops (Err no.Memory) e ended still none = (away, none refl)
+      by (Err x) is keeps may stops (Err no.Stopped) e ended still none = (ap (λ (v : EngineView L D C). v.tablet.core.stopped) (still refl) ∙ stops (sym (e ∙ is)), away)
 
 -- what is so of an answer
 pub on_ok : (r : Result (Unit {0}) MaintNo) (A : Type 0) {B : Type 0} → (A → B) → OnOk r A → OnOk r B
@@ -205,7 +205,7 @@ starts_as {L} {D} {C} tells seen n w taken a b c s is begun left =
     by s (subst (λ (x : Want). LeftAs tells seen n x b c s) (sym is) (left taken (subst (BeginsBy b n) is begun.begins)))
   where
     by : (x : Start Turn D) → LeftAs tells seen n w b c x → StartsAs tells seen n w a c x
-    by (start.Over t) h = subst (RunsAs n w a c) (sym h.0) h.1
+    by (start.Over t) h = subst (RunsAs n w a c) (sym h.0) (h.1, λ none. h.2)
     by (start.Out out) h = record {
       away = h.0;
       asks = h.1.own ∙ ap (λ (u : UpkeepView). record u { job = job_of n c.upkeep }) begun.own ∙ ap (λ (o : Option JobView). record (asked w begun.job (upkeep_at n a.upkeep.passes)) { job = o }) h.0.own;
@@ -227,6 +227,38 @@ all_ok (Ok done) A B f = f
 all_ok (Err e) A B f = tt
 
 -- a job that failed
-pub ends_failed : {L D C : Type 0} (n : ℕ) (w : Want) (a b : EngineView L D C) (e : MaintNo) → HasNoDevice n b → (e ≡ no.Stopped → b.tablet.core.stopped ≡ true) → EndsAs n w a b (Err e)
-ends_failed n w a b no.Memory home stops = home
-ends_failed n w a b no.Stopped home stops = (stops refl, home)
+pub ends_failed : {L D C : Type 0} (n : ℕ) (w : Want) (a b : EngineView L D C) (e : MaintNo) → HasNoDevice n b → (e ≡ no.Stopped → b.tablet.core.stopped ≡ true) → (e ≡ no.Memory → job_of n b.upkeep ≡ None) → EndsAs n w a b (Err e)
+ends_failed n w a b no.Memory home stops none = (home, none refl)
+ends_failed n w a b no.Stopped home stops none = (stops refl, home)
+
+-- for want of memory nothing was begun
+pub memory_same : {L D C : Type 0} (n : ℕ) (w : Want) (a b : EngineView L D C) → HasNoDevice n b → upkeep_at n b.upkeep.passes ≡ upkeep_at n a.upkeep.passes → RunsAs n w a b turn.Memory
+memory_same n w a b home same = (home, λ none. ap (λ (u : UpkeepView). u.job) same ∙ none)
+
+-- what is so of two answers that are one
+pub on_both : (carried result : Result (Unit {0}) MaintNo) (A B : Type 0) {P : Type 0} → result ≡ carried → (A → B → P) → OnOk carried A → OnOk result B → OnOk result P
+on_both carried (Ok done) A B same f a b = f (subst (λ r. OnOk r A) (sym same) a) b
+on_both carried (Err e) A B same f a b = tt
+
+-- ---- what was read of a job is kept to its end
+
+pub keeps_done : (n : ℕ) (a b c : UpkeepsView) → KeepsRead n a b → (upkeep_at n c.passes).done ≡ job_of n b → EndsRead n a c
+keeps_done n a b c k done = record { its = k.its; had = k.had; job = k.job; done = done ∙ k.has; same = k.same }
+
+pub keeps_then : (n : ℕ) (a b c : UpkeepsView) → KeepsRead n a b → EndsRead n b c → EndsRead n a c
+keeps_then n a b c k e =
+    let mid = some_is e.its k.job (sym e.had ∙ k.has) in
+    record {
+      its = k.its;
+      had = k.had;
+      job = e.job;
+      done = e.done;
+      same = record {
+        inputs = e.same.inputs ∙ ap (λ (j : JobView). j.inputs) mid ∙ k.same.inputs;
+        times = (e.same.times.0 ∙ ap (λ (j : JobView). j.bound) mid ∙ k.same.times.0, e.same.times.1 ∙ ap (λ (j : JobView). j.mark) mid ∙ k.same.times.1);
+      };
+    }
+
+-- the job that is done is known
+pub ends_same : (n : ℕ) (a b : UpkeepsView) (its job : JobView) → job_of n a ≡ Some its → (upkeep_at n b.passes).done ≡ Some job → EndsRead n a b → HasReadTheSame its job
+ends_same n a b its job had done e = subst (λ (x : JobView). HasReadTheSame x job) (some_is e.its its (sym e.had ∙ had)) (subst (HasReadTheSame e.its) (some_is e.job job (sym e.done ∙ done)) e.same)

@@ -1,25 +1,27 @@
 -- A call whose job goes outside the lock, as the part of its pass tells.
-use Rattle.std.proofs.Common.{◌≡◌, ℕ, Bool, true, List, Option, Some, None, Result, Ok, Err, refl, sym, ap, subst, ◌∙◌}
+use Rattle.std.proofs.Common.{◌≡◌, ℕ, Bool, List, Option, Some, Result, Ok, Err, sym, ap, subst, ◌∙◌}
+use Rattle.std.specs.Prelude.{OnOk}
 use Rattle.kt_disk.specs.Disk.{Files}
 use Rattle.kt_history.specs.declared.event.Event.{Event}
 use Rattle.kt_pick.specs.declared.rules.Want.{Want}
-use Rattle.kt_storeside.specs.declared.side.Lent.{Lent}
 use Rattle.kt_engine.specs.Calls.{HasNoDevice, StandsStill}
 use Rattle.kt_engine.specs.Engines.{EngineView, TellsStop}
-use Rattle.kt_engine.specs.Jobs.{JobView, UpkeepView, asked, finished, job_of, upkeep_at}
+use Rattle.kt_engine.specs.Jobs.{JobView, UpkeepView, asked, finished, job_of}
 use Rattle.kt_engine.specs.Visits.{PartView, part_in, IsVisit}
 use Rattle.kt_engine.specs.declared.job.MaintNo.{MaintNo}
 use Rattle.kt_engine.specs.declared.job.MaintNo.TheVariants as no
 use Rattle.kt_engine.proofs.Visiting.{root_stays}
-use Rattle.kt_maint.specs.Calls.{AfterCall, AfterEnd, AfterStart, AfterTurn, ComesTo, HasAsked, HasAway, HasEndedJob, IsBetween, SameUpkeep, ran_of}
+use Rattle.kt_maint.specs.Calls.{AfterCall, AfterEnd, AfterStart, AfterTurn, ComesTo, HasAsked, HasAway, HasEndedJob, HasNoJob, IsBetween, SameUpkeep, ran_of}
 use Rattle.kt_maint.specs.Done.{FoundBy, HasDoneJob, HasGiven}
-use Rattle.kt_maint.specs.Outside.{EndsAs, HasWritten, StartsAs, ended}
+use Rattle.kt_maint.specs.Outside.{EndsAs, EndsRead, HasWritten, StartsAs, ended}
 use Rattle.kt_maint.specs.Runs.{HasNoDevice as PassHasNone, StandsAs}
 use Rattle.kt_maint.specs.declared.jobs.Start.{Start}
 use Rattle.kt_maint.specs.declared.jobs.Start.TheVariants as start
 use Rattle.kt_maint.specs.declared.outside.Outcome.{Outcome}
 use Rattle.kt_maint.specs.declared.outside.Outside.{Outside}
 use Rattle.kt_maint.specs.declared.tries.Turn.{Turn}
+use Rattle.kt_maint.specs.declared.tries.Turn.TheVariants as turn
+use Rattle.kt_maint.proofs.Begun.{ends_same}
 use Rattle.kt_maint.proofs.Calling.{after_turn, done_then, none_lent, none_out, stop_told}
 use Rattle.kt_maint.proofs.Stages.{some_is}
 
@@ -36,13 +38,13 @@ module _ {L D C : Type 0} (told told' : Option (PartView L D C)) (x y : EngineVi
   after_start home tells seen w (start.Out out) lines stops sees h = record { was = part_in x n; was_is = is; part = part_in y n; is = is'; away = h.away; asks = h.asks }
 
   -- and the last one
-  pub after_end : (job : JobView) → job_of n x.upkeep ≡ Some job → (r : Result (Unit {0}) MaintNo) (lines : List Event) → TellsStop y.tablet.core → lines ≡ y.tablet.core.trail → EndsAs n job.want x y r → AfterEnd told told' lines r
-  after_end job has (Ok done) lines stops sees h = (
-    record { was = part_in x n; was_is = is; its = job; had = has; part = part_in y n; is = is'; job = h.0.job; upkeep = h.0.upkeep; given = h.0.given },
+  pub after_end : (job : JobView) → job_of n x.upkeep ≡ Some job → (r : Result (Unit {0}) MaintNo) (lines : List Event) → TellsStop y.tablet.core → lines ≡ y.tablet.core.trail → EndsAs n job.want x y r → OnOk r (EndsRead n x.upkeep y.upkeep) → AfterEnd told told' lines r
+  after_end job has (Ok done) lines stops sees h reads = (
+    record { was = part_in x n; was_is = is; its = job; had = has; part = part_in y n; is = is'; job = h.0.job; upkeep = h.0.upkeep; same = ends_same n x.upkeep y.upkeep job h.0.job has (ap (λ (u : UpkeepView). u.done) h.0.upkeep) reads; given = h.0.given },
     home_told h.1,
   )
-  after_end job has (Err no.Stopped) lines stops sees h = (stop_told y lines stops sees h.0, home_told h.1)
-  after_end job has (Err no.Memory) lines stops sees h = home_told h
+  after_end job has (Err no.Stopped) lines stops sees h reads = (stop_told y lines stops sees h.0, home_told h.1)
+  after_end job has (Err no.Memory) lines stops sees h reads = (home_told h.0, record { part = part_in y n; is = is'; none = h.1 })
 
 -- what was written comes back
 pub comes_to : {L D C : Type 0} (tells : Bool) (seen : D → Files) (now : D → ℕ) (leaves : D → ℕ → Files → Type 0) (faults : D → ℕ) (n : ℕ) (out : Outside D) (outcome : Outcome D) (told : Option (PartView L D C)) → HasAway tells seen n out told → (outcome.bound ≡ out.input.bound) × (outcome.most ≡ out.most)
@@ -88,16 +90,28 @@ module _ {L D C : Type 0} (tells : Bool) (seen : D → Files) (n : ℕ) (w : Wan
   pub call_ended : (lines : List Event) (r : Result (Unit {0}) MaintNo) → AfterEnd mid after lines r → AfterCall w before after lines (ran_of r)
   call_ended lines (Ok done) h = (its_ask h.0, h.1, its_job h.0)
   call_ended lines (Err no.Stopped) h = h
-  call_ended lines (Err no.Memory) h = h
+  call_ended lines (Err no.Memory) h = (h.0, λ none. h.1)
 
 -- however it ended the pass has no device
 pub end_home : {L D C : Type 0} (before after : Option (PartView L D C)) (lines : List Event) (r : Result (Unit {0}) MaintNo) → AfterEnd before after lines r → HasNoDevice after
 end_home before after lines (Ok done) h = h.1
 end_home before after lines (Err no.Stopped) h = h.1
-end_home before after lines (Err no.Memory) h = h
+end_home before after lines (Err no.Memory) h = h.0
+
+-- it has no job as it had none
+none_since : {L D C : Type 0} (a b : Option (PartView L D C)) → SameUpkeep a b → HasNoJob a → HasNoJob b
+none_since {L} {D} {C} a b same none = record {
+  part = same.part;
+  is = same.is;
+  none = ap (λ (u : UpkeepView). u.job) (same.same ∙ ap (λ (p : PartView L D C). p.pass.upkeep) (some_is same.was none.part (sym same.was_is ∙ none.is))) ∙ none.none;
+}
+
+-- a later turn had no memory
+pub memory_since : {L D C : Type 0} (a b c : Option (PartView L D C)) (w : Want) (lines : List Event) → SameUpkeep a b → AfterTurn w b c lines turn.Memory → AfterCall w a c lines (Err no.Memory)
+memory_since a b c w lines same h = (h.0, λ none. h.1 (none_since a b same none))
 
 -- it asked in a later visit, and had what it had of maintenance until then
 pub call_since : {L D C : Type 0} (a b c : Option (PartView L D C)) (w : Want) (lines : List Event) (r : Result (Unit {0}) MaintNo) → SameUpkeep a b → AfterCall w b c lines (ran_of r) → AfterCall w a c lines (ran_of r)
 call_since a b c w lines (Ok done) same h = done_then a b c w same h
 call_since a b c w lines (Err no.Stopped) same h = h
-call_since a b c w lines (Err no.Memory) same h = h
+call_since a b c w lines (Err no.Memory) same h = (h.0, λ none. h.1 (none_since a b same none))

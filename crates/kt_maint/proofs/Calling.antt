@@ -121,7 +121,10 @@ module _ {L D C : Type 0} where
       )
       after_turn w turn.Wait seen tells sees r = (record { was = part_in x n; was_is = is; part = part_in y n; is = is'; same = r.0 }, no_device_told r.1)
       after_turn w turn.Stopped seen tells sees r = (stop_told y seen tells sees r.0, no_device_told r.1)
-      after_turn w turn.Memory seen tells sees r = no_device_told r
+      after_turn w turn.Memory seen tells sees r = (
+        no_device_told r.0,
+        λ before. record { part = part_in y n; is = is'; none = r.1 (ap (λ (p : PartView L D C). p.pass.upkeep.job) (part_is told before.part x n before.is is) ∙ before.none) },
+      )
 
       -- ---- where nothing has changed but what passes have of maintenance
 
@@ -192,7 +195,7 @@ module _ {L D C : Type 0} (b c : Option (PartView L D C)) where
   call_home w seen (Ok ran.Done) call = call.1
   call_home w seen (Ok ran.Nothing) call = call.1
   call_home w seen (Err no.Stopped) call = call.1
-  call_home w seen (Err no.Memory) call = call
+  call_home w seen (Err no.Memory) call = call.0
 
   pub call_stops : (w : Want) (seen : List Event) (r : Result Ran MaintNo) → AfterCall w b c seen r → r ≡ Err no.Stopped → has_stop seen ≡ true
   call_stops w seen (Ok r) call e = absurd cc

@@ -1,18 +1,16 @@
 -- A compaction that goes outside the lock, and what is written there.
-use Rattle.std.proofs.Common.{◌≡◌, ◌≢◌, ◌≤◌, ◌<◌, ◌+◌, ◌^◌, ℕ, suc, Bool, true, false, cond, List, [], ◌∷◌, length, map, Option, Some, None, Result, Ok, Err, refl, sym, ap, subst, ◌∙◌, arith}
-use Rattle.std.specs.Prelude.{IsTrue, IfOk, OnOk, ◌==◌, min}
+use Rattle.std.proofs.Common.{◌≡◌, ◌≢◌, ◌≤◌, ◌<◌, ◌+◌, ◌^◌, ℕ, Bool, true, cond, List, [], ◌∷◌, length, map, Option, Some, None, Result, Ok, Err, refl, sym, ap, subst, ◌∙◌, arith}
+use Rattle.std.specs.Prelude.{IsTrue, IfOk, OnOk, ◌==◌}
 use Rattle.std.proofs.Math.Nat.{min-le_left, le-max_left}
 use Rattle.std.proofs.lemmas.Bool.Decides.{nat_tests}
-use Rattle.kt_base.specs.Causes.{Rose}
 use Rattle.kt_disk.specs.Disk.{Files}
-use Rattle.kt_history.specs.History.{Past}
 use Rattle.kt_diskrowset.specs.declared.data.RowSetData.{RowSetData}
 use Rattle.kt_diskrowset.specs.declared.inputs.Inputs.{Inputs}
 use Rattle.kt_diskrowset.specs.declared.inputs.Outputs.{Outputs}
 use Rattle.kt_diskrowset.specs.Data.{held_in, store_in}
 use Rattle.kt_files.specs.Reading.{HoldAll}
 use Rattle.kt_outputs.specs.Named.{AreShort}
-use Rattle.kt_outputs.specs.Outputs.{meta_in, all_file_numbers, AreStable, AreThere, AreWritten, CountUp, HasLeft}
+use Rattle.kt_outputs.specs.Outputs.{meta_in, all_file_numbers, AreStable, AreThere, AreWritten, CountUp}
 use Rattle.kt_outputs.specs.declared.outputs.WriteNo.{WriteNo}
 use Rattle.kt_outputs.specs.declared.outputs.WriteNo.TheVariants as write_no
 use Rattle.kt_outputs.proofs.Written.{left_none}
@@ -27,14 +25,14 @@ use Rattle.kt_pick.specs.declared.rules.Want.TheVariants as want
 use Rattle.kt_engine.specs.declared.job.JobInput.{JobInput}
 use Rattle.kt_engine.specs.declared.upkeep.Stage.TheVariants as stage
 use Rattle.kt_engine.specs.Engines.{EngineView}
-use Rattle.kt_engine.specs.Jobs.{JobView, UpkeepView, UpkeepsView, IsAtStage, job_of}
-use Rattle.kt_engine.specs.JobSteps.{AtNewStage, HasInput, Reads, TakesBy, TakesInputs}
+use Rattle.kt_engine.specs.Jobs.{JobView, UpkeepView}
+use Rattle.kt_engine.specs.JobSteps.{AtNewStage, HasInput, Reads, TakesBy}
 use Rattle.kt_engine.specs.Returning.{LeavesAs}
-use Rattle.kt_engine.specs.Visits.{IsVisit, Root, lent_of, out_of, part_in, root_of}
+use Rattle.kt_engine.specs.Visits.{IsVisit, Root, lent_of, out_of, part_in}
 use Rattle.kt_engine.proofs.Visiting.{root_stays}
 use Rattle.kt_maint.specs.JobRuns.{MergeBegins}
 use Rattle.kt_maint.specs.Outside.{HasRead, HasWritten, HaveFiles, IsAway, IsMergedOf, MayWrite, ReadsWell}
-use Rattle.kt_maint.specs.Runs.{IsQuiet, IsReady, JobIsAt, LentToWrite, MayAbandon}
+use Rattle.kt_maint.specs.Runs.{IsQuiet, IsReady, JobIsAt, MayAbandon}
 use Rattle.kt_maint.specs.declared.outside.Outside.{Outside}
 use Rattle.kt_maint.proofs.Merged.{whole}
 use Rattle.kt_maint.proofs.Stages.{some_is, goes_on, is_at_then, quiet_stage}

@@ -1,15 +1,15 @@
 -- Disk rowsets that are written, with REDO files that came to them: their numbers, and what their histories pass.
-use Rattle.std.proofs.Common.{◌≡◌, ◌≤◌, ℕ, suc, Bool, true, ◌&&◌, List, [], ◌∷◌, ◌++◌, map, length, refl, sym, ap, subst, ◌∙◌}
+use Rattle.std.proofs.Common.{◌≡◌, ◌≤◌, ℕ, suc, true, ◌&&◌, List, [], ◌∷◌, ◌++◌, map, length, refl, sym, ap, subst, ◌∙◌}
 use Rattle.std.specs.Prelude.{◌==◌, ◌^◌, Option, Some, false}
 use Rattle.std.specs.List.{AllByRecursion, flat_map}
 use Rattle.std.specs.declared.cmp.Ordering.TheVariants.{Less}
 use Rattle.std.proofs.lemmas.List.{length-map}
 use Rattle.kt_history.specs.declared.changes.Delta.{Delta}
 use Rattle.kt_history.specs.Rows.{Row, Rows, key_cmp}
-use Rattle.kt_history.specs.Stores.{Hist, Store, hist_in}
+use Rattle.kt_history.specs.Stores.{Hist, hist_in}
 use Rattle.kt_history.specs.Views.{AreRising}
 use Rattle.kt_histlaws.specs.Histories.{hists, AtMostOne}
-use Rattle.kt_rowfiles.specs.Files.{DiskRowset, row_under, records_in, falling, hist_in_files}
+use Rattle.kt_rowfiles.specs.Files.{DiskRowset, row_under, records_in, falling}
 use Rattle.kt_rowfiles.specs.Fitting.{steps_fit, rows_fit, undos_fit}
 use Rattle.kt_rowfiles.specs.Merging.{joined_history}
 use Rattle.kt_content.specs.Content.{LacksNumber, NumbersDiffer}

@@ -2,18 +2,16 @@
 use Rattle.std.proofs.Common.{◌≡◌, ◌≢◌, ◌≤◌, ◌<◌, ◌+◌, ◌++◌, ◌^◌, ℕ, suc, Bool, true, false, cond, inl, Result, Ok, List, [], ◌∷◌, length, map, Option, Some, None, refl, sym, ap, subst, ◌∙◌, arith}
 use Rattle.std.specs.Prelude.{IsTrue, ◌==◌, max}
 use Rattle.std.proofs.Math.Nat.{le-max_left, le-max_right}
-use Rattle.std.specs.List.{AllByRecursion}
 use Rattle.kt_base.specs.Causes.{Rose}
 use Rattle.kt_disk.specs.Disk.{Files}
 use Rattle.kt_history.specs.History.{Past}
-use Rattle.kt_history.specs.Stores.{Hist, Store}
+use Rattle.kt_history.specs.Stores.{Hist}
 use Rattle.kt_histlaws.specs.Fitting.{AreSound}
 use Rattle.kt_histlaws.specs.Flights.{AllUnder}
 use Rattle.kt_histlaws.specs.Histories.{hists}
 use Rattle.kt_histlaws.specs.Jobs.{AreAlike}
-use Rattle.kt_rowfiles.specs.Files.{DiskRowset, hist_in_files}
+use Rattle.kt_rowfiles.specs.Files.{hist_in_files}
 use Rattle.kt_rowfiles.specs.Merging.{joined_history}
-use Rattle.kt_rowfiles.specs.declared.taking.Span.{Span}
 use Rattle.kt_content.specs.Flushes.{before}
 use Rattle.kt_content.specs.Rules.{Rules, HistPasses, RowsetsPass}
 use Rattle.kt_super.specs.Rowsets.{AreRowsets}
@@ -23,19 +21,18 @@ use Rattle.kt_files.specs.Reading.{HoldAll}
 use Rattle.kt_diskrowset.specs.declared.data.RowSetData.{RowSetData}
 use Rattle.kt_diskrowset.specs.declared.inputs.Inputs.{Inputs}
 use Rattle.kt_diskrowset.specs.declared.inputs.Outputs.{Outputs}
-use Rattle.kt_diskrowset.specs.Data.{files_in, held_in, store_in}
+use Rattle.kt_diskrowset.specs.Data.{files_in, held_in}
 use Rattle.kt_joblaws.specs.Apart.{AreApart}
 use Rattle.kt_joblaws.specs.DeltaJobs.{a_rowset_of_passing_histories_passes, histories_of_passing_rowsets_pass}
 use Rattle.kt_joblaws.specs.Late.{AllHaveLater, hists_now, hists_written as hists_in_files_of, late_outputs_are_alike, a_late_output_passes, outputs_have_a_key_once}
 use Rattle.kt_joblaws.specs.Outputs.{outputs_pass, marks_may_rise}
 use Rattle.kt_joblaws.specs.Written.{written_rowsets_are_the_same, written_rowsets_pass}
-use Rattle.kt_merge.specs.Late.{HasNoneAbove, AllTellLate}
-use Rattle.kt_merge.specs.Merge.{hists_of, hists_upto, hists_written, AreFaultless, HaveEach}
-use Rattle.kt_merge.specs.Told.{told_by_all}
-use Rattle.kt_outputs.specs.Again.{AllAddLate, late_files_may_be_named, late_files_stand, others_hold_beside_late_files}
+use Rattle.kt_merge.specs.Late.{AllTellLate}
+use Rattle.kt_merge.specs.Merge.{hists_of, hists_upto, hists_written}
+use Rattle.kt_outputs.specs.Again.{late_files_may_be_named, late_files_stand, others_hold_beside_late_files}
 use Rattle.kt_outputs.specs.Fewer.{some_may_be_named}
 use Rattle.kt_outputs.specs.Named.{outputs_come_behind, outputs_stand}
-use Rattle.kt_outputs.specs.Outputs.{meta_in, all_file_numbers, AreThere, AreStable, AreWritten, CountUp, HasLeft}
+use Rattle.kt_outputs.specs.Outputs.{meta_in, all_file_numbers, AreStable, AreWritten, CountUp, HasLeft}
 use Rattle.kt_outputs.specs.declared.outputs.WriteNo.{WriteNo}
 use Rattle.kt_outputs.proofs.Written.{left_then, stable_then}
 use Rattle.kt_storeside.specs.declared.side.Lent.{Lent}
@@ -50,7 +47,7 @@ use Rattle.kt_engine.specs.declared.upkeep.Stage.TheVariants as stage
 use Rattle.kt_engine.specs.Engines.{EngineView, IsFound, IsContent}
 use Rattle.kt_engine.specs.JobMeta.{metas_left}
 use Rattle.kt_engine.specs.Jobs.{JobView, UpkeepView, UpkeepsView, IsUnpublished, job_of, takes_by, takes_of, taken_by}
-use Rattle.kt_engine.specs.JobSteps.{IsMerge, HoldInputs, TakesBy, TakesInputs}
+use Rattle.kt_engine.specs.JobSteps.{IsMerge, HoldInputs, TakesBy}
 use Rattle.kt_engine.specs.Logged.{PlanPasses}
 use Rattle.kt_engine.specs.Near.{first_number, most_files, most_rowsets}
 use Rattle.kt_engine.specs.Outside.{job_back}
@@ -60,7 +57,7 @@ use Rattle.kt_engine.proofs.TakenRead.{whole_hists}
 use Rattle.kt_engine.proofs.Visiting.{root_stays}
 use Rattle.kt_maint.specs.Done.{AreMerged, EndsWith}
 use Rattle.kt_maint.specs.JobRuns.{MayHandIn}
-use Rattle.kt_maint.specs.Outside.{span_of, HasFoundBy, IsAway, IsMergedOf, HaveFiles, HasWritten, HasCome, HaveLateFiles, HasAdded, IsPutIn, MayComeHome}
+use Rattle.kt_maint.specs.Outside.{span_of, HaveFiles, HasCome, HasAdded, IsPutIn, MayComeHome}
 use Rattle.kt_maint.specs.Runs.{JobIsAt, LentToWrite, MayAbandon, is_pass}
 use Rattle.kt_maint.proofs.Calling.{out_none}
 use Rattle.kt_maint.proofs.LateLists.{again_files, again_fresh, numbers_stay, from_same, below_same, differ_same, once_written, outputs_rise, late_pass, now_is}
@@ -98,7 +95,7 @@ takes_some (r ∷ taken) last some = refl
 -- ---- the store comes home with what was written
 
 abbrev pub home_with : {D : Type 0} → StoreView D → Lent D → StoreView D
-home_with s lent = record { home = Some lent.device; known = lent.device; holder = None; meta = s.meta; lent = None; next_rowset = lent.next_rowset; next_file = lent.next_file; whole = true }
+home_with s lent = record s { home = Some lent.device; known = lent.device; holder = None; lent = None; next_rowset = lent.next_rowset; next_file = lent.next_file; whole = true }
 
 -- not too many rowset numbers are used
 pub few_numbers : (first store went came : ℕ) → store < first + 2 ^ 44 → went ≡ store → came ≤ went + 2 ^ 32 → came ≤ max store (first + most_rowsets)
@@ -193,7 +190,7 @@ module _ {L D C : Type 0} (tells : Bool) (seen : D → Files) (now : D → ℕ) 
   back = subst (λ (j : JobView). HasReturned tells n j put.list e e1) (some_is put.job job (sym put.had ∙ come.away.own)) put.back
 
   abbrev pub its : JobView
-  its = job_back back.many (first_number e.tablet.names) job
+  its = job_back back.many (first_number e.tablet.names) put.list job
 
   pub compacts : job.want ≡ want.Compact job.taken
   compacts = come.away.want.0 ∙ come.away.want.1
@@ -362,9 +359,10 @@ module _ {L D C : Type 0} (tells : Bool) (seen : D → Files) (now : D → ℕ) 
 
   -- ---- so they may be handed in
 
-  pub ends : EndsWith (IsFound e2) job.want job.bound input.inputs out done
-  ends = subst (λ (w : Want). EndsWith (IsFound e2) w job.bound input.inputs out done) (sym compacts) (record {
+  pub ends : EndsWith (IsFound e2) job.want job.bound input.inputs (Some put.list) out done
+  ends = subst (λ (w : Want). EndsWith (IsFound e2) w job.bound input.inputs (Some put.list) out done) (sym compacts) (record {
     now = put.list;
+    is = refl;
     later = later;
     in_memory = back.upto;
     late = put.with_late.late;

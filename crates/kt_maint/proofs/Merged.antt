@@ -1,5 +1,5 @@
 -- What was merged holds what the job takes.
-use Rattle.std.proofs.Common.{◌≡◌, ◌≤◌, ℕ, zero, suc, List, [], ◌∷◌, map, length, take, drop, Some, None, refl, sym, ap, subst, ◌∙◌}
+use Rattle.std.proofs.Common.{Option, ◌≡◌, ◌≤◌, ℕ, zero, suc, List, [], ◌∷◌, map, length, take, drop, Some, None, refl, sym, ap, subst, ◌∙◌}
 use Rattle.std.specs.Prelude.{◌≢◌, ◌<◌, ◌^◌, Bool, IsTrue}
 use Rattle.std.specs.List.{AllByRecursion}
 use Rattle.std.specs.FinMap.Entries.{find}
@@ -155,10 +155,11 @@ taken_is v job (want.Minor r) never = absurd never
 taken_is v job (want.Major r) never = absurd never
 
 -- what came meanwhile is told of no more pasts
-pub ends_as : (found other : Past → Type 0) → ((first : Past) → other first → found first) → (w : Want) (bound : ℕ) (inputs : Inputs) (out done : List RowSetData) → EndsWith found w bound inputs out done → EndsWith other w bound inputs out done
-ends_as found other back want.Flush bound inputs out done e = e
-ends_as found other back (want.Compact taken) bound inputs out done e = record {
+pub ends_as : (found other : Past → Type 0) → ((first : Past) → other first → found first) → (w : Want) (bound : ℕ) (inputs : Inputs) (returned : Option (List RowSetData)) (out done : List RowSetData) → EndsWith found w bound inputs returned out done → EndsWith other w bound inputs returned out done
+ends_as found other back want.Flush bound inputs returned out done e = e
+ends_as found other back (want.Compact taken) bound inputs returned out done e = record {
   now = e.now;
+  is = e.is;
   later = λ first is. e.later first (back first is);
   in_memory = λ first is. e.in_memory first (back first is);
   late = e.late;
@@ -166,9 +167,9 @@ ends_as found other back (want.Compact taken) bound inputs out done e = record {
   adds = e.adds;
   again = e.again;
 }
-ends_as found other back (want.FlushDeltas r) bound inputs out done e = e
-ends_as found other back (want.Minor r) bound inputs out done e = e
-ends_as found other back (want.Major r) bound inputs out done e = e
+ends_as found other back (want.FlushDeltas r) bound inputs returned out done e = e
+ends_as found other back (want.Minor r) bound inputs returned out done e = e
+ends_as found other back (want.Major r) bound inputs returned out done e = e
 
 -- the outputs of a flush that are written are what merging makes
 pub gives_merged : {L D C : Type 0} (n : ℕ) (e1 e3 : EngineView L D C) (was : JobView) (merged out : List RowSetData) (first : ℕ) → root_of e3 ≡ root_of e1 → AreMerged (IsFound e1) was merged → AreWritten first merged out
@@ -181,7 +182,7 @@ gives_merged {L} {D} {C} n e1 e3 was merged out first root made written has flus
   out = out;
   written = written;
   done = out;
-  ends = subst (λ (w : Want). EndsWith (IsFound e3) w has.at.job.bound made.inputs out out) (sym flush) refl;
+  ends = subst (λ (w : Want). EndsWith (IsFound e3) w has.at.job.bound made.inputs has.at.job.returned out out) (sym flush) refl;
   from = has.from;
   metas = has.metas;
   held = has.held;
@@ -197,7 +198,7 @@ gives_then {L} {D} {C} c d job s number root g = record {
   out = g.out;
   written = g.written;
   done = g.done;
-  ends = ends_as (IsFound c) (IsFound d) (λ past. subst (λ (r : Root L D C). FoundBy r past) root) job.want job.bound g.merged.inputs g.out g.done g.ends;
+  ends = ends_as (IsFound c) (IsFound d) (λ past. subst (λ (r : Root L D C). FoundBy r past) root) job.want job.bound g.merged.inputs job.returned g.out g.done g.ends;
   from = g.from;
   metas = g.metas;
   held = g.held;

@@ -1,5 +1,5 @@
 -- The steps of the last visit of a compaction.
-use Rattle.std.proofs.Common.{◌≡◌, ◌≢◌, ◌≤◌, ◌+◌, ◌^◌, ℕ, suc, Bool, true, List, [], map, Option, Some, None, Result, Ok, Err, inl, inr, refl, sym, ap, subst, ◌∙◌, arith}
+use Rattle.std.proofs.Common.{◌≡◌, ◌≤◌, ◌+◌, ◌^◌, ℕ, suc, Bool, true, List, map, Some, None, Result, Ok, Err, inr, refl, sym, ap, subst, ◌∙◌, arith}
 use Rattle.std.specs.Prelude.{IsTrue, IfOk, OnOk}
 use Rattle.std.specs.List.{AllByRecursion}
 use Rattle.std.proofs.Math.Nat.{le-max_left}
@@ -29,6 +29,7 @@ use Rattle.kt_storeside.specs.declared.side.Lent.{Lent}
 use Rattle.kt_storeside.specs.Sides.{StoreView, MayBeLent}
 use Rattle.kt_stores.specs.Takes.{Takes, mems, rowsets}
 use Rattle.kt_pick.specs.declared.rules.Want.{Want}
+use Rattle.kt_engine.specs.declared.job.MaintNo.{MaintNo}
 use Rattle.kt_engine.specs.declared.upkeep.Stage.TheVariants as stage
 use Rattle.kt_engine.specs.Engines.{EngineView, IsFound}
 use Rattle.kt_engine.specs.JobMeta.{metas_left, last_by}
@@ -44,8 +45,9 @@ use Rattle.kt_engine.proofs.JobCalls.{as_merge, by_merge}
 use Rattle.kt_engine.proofs.Visiting.{root_stays}
 use Rattle.kt_maint.specs.Done.{FoundBy}
 use Rattle.kt_maint.specs.JobRuns.{HasHandedIn, HasHandedOne, HandsIn, IsWrittenBy, MayHandIn, MergeIsWritten, OneIsWritten}
-use Rattle.kt_maint.specs.Outside.{span_of, HasAdded, HasCome, HasFoundBy, HaveLateFiles}
-use Rattle.kt_maint.specs.Runs.{IsReady, JobHas, MayAbandon}
+use Rattle.kt_maint.specs.Outside.{span_of, HasAdded, HasCome, HasFoundBy, HaveLateFiles, KeepsRead}
+use Rattle.kt_maint.specs.Runs.{IsPublished, IsReady, JobHas, MayAbandon}
+use Rattle.kt_maint.proofs.Begun.{on_ok}
 use Rattle.kt_maint.proofs.HandedIn.{has_handed}
 use Rattle.kt_maint.proofs.Merged.{ends_as, merged_same}
 use Rattle.kt_maint.proofs.Written.{last_is, names_written, no_dms}
@@ -118,10 +120,20 @@ still_free tells seen now leaves faults n bound most lent r part c =
 -- a job that is back may still be given up
 pub returned_abandon : {L D C : Type 0} (tells : Bool) (n : ℕ) (job : JobView) (list : List RowSetData) (a b : EngineView L D C) → HasReturned tells n job list a b → MayAbandon b n
 returned_abandon tells n job list a b back = record {
-  job = job_back back.many (first_number a.tablet.names) job;
+  job = job_back back.many (first_number a.tablet.names) list job;
   has = ap (λ (u : UpkeepView). u.job) back.at.upkeep.own;
   early = tt;
   free = back.free;
+}
+
+-- and has what was read of it
+pub returned_read : {L D C : Type 0} (tells : Bool) (n : ℕ) (job : JobView) (list : List RowSetData) (a b : EngineView L D C) → job_of n a.upkeep ≡ Some job → HasReturned tells n job list a b → KeepsRead n a.upkeep b.upkeep
+returned_read tells n job list a b had back = record {
+  its = job;
+  had = had;
+  job = job_back back.many (first_number a.tablet.names) list job;
+  has = ap (λ (u : UpkeepView). u.job) back.at.upkeep.own;
+  same = record { inputs = refl; times = (refl, refl) };
 }
 
 -- ---- the outputs are handed in
@@ -208,7 +220,7 @@ module _ {L D C : Type 0} (tells : Bool) (seen : D → Files) (now : D → ℕ) 
           out = may.out;
           written = may.written;
           done = out;
-          ends = ends_as (IsFound a) (IsFound b) (λ past found. found) job.want job.bound may.merged.inputs may.out out may.ends;
+          ends = ends_as (IsFound a) (IsFound b) (λ past found. found) job.want job.bound may.merged.inputs job.returned may.out out may.ends;
           from = has.from;
           metas = has.metas;
           held = has.held;
@@ -225,3 +237,12 @@ hand_in_written {L} {D} {C} tells seen now leaves n w a b out may beside hands s
 -- which is what its want asks
 pub written_by : {L D C : Type 0} (tells : Bool) (seen : D → Files) (now : D → ℕ) (leaves : D → ℕ → Files → Type 0) (v : EngineView L D C) (n : ℕ) (w : Want) → MergeIsWritten tells seen now leaves v n w → IsWrittenBy tells seen now leaves v n w
 written_by tells seen now leaves v n w m = as_merge (MergeIsWritten tells seen now leaves v n w) (λ r. OneIsWritten tells seen now leaves v n w) w (subst IsMerge m.want m.has.at.want) m
+
+-- once it is published the job has what was read of it
+pub published_read : {L D C : Type 0} (n : ℕ) (job : JobView) (out : List RowSetData) (a b c : EngineView L D C) (r : Result (Unit {0}) MaintNo) → job_of n a.upkeep ≡ Some job → IsMerge job.want → HandsIn n job out a b
+    → ((j : JobView) → job_of n b.upkeep ≡ Some j → OnOk r (IsPublished n j b c)) → OnOk r (KeepsRead n a.upkeep c.upkeep)
+published_read n job out a b c r had merges hands published =
+    let h = by_merge (HasHandedIn n job out a b) (λ x. HasHandedOne n job out a b) job.want merges hands in
+    let written : JobView = record job { stage = stage.Written; metas = map (meta_in 0) out; held = map held_in out; room = h.room } in
+    on_ok r (IsPublished n written b c)
+    (λ p. record { its = job; had = had; job = record written { stage = stage.Published; super = p.number }; has = p.has; same = record { inputs = refl; times = (refl, refl) } }) (published written (ap (λ (u : UpkeepView). u.job) h.later.upkeep.own))

@@ -75,28 +75,28 @@ module _ {L D C : Type 0} (n : ℕ) where
   }
 
   -- the store and this pass's maintenance have changed, and nobody has it out
-  side_visit : (b : EngineView L D C) (s : StoreView D) (u : UpkeepsView) → b.store.holder ≡ None → s.holder ≡ None → s.meta.schema ≡ b.store.meta.schema → ((k : ℕ) → (k ≡ n → ⊥) → upkeep_at k u.passes ≡ upkeep_at k b.upkeep.passes)
+  side_visit : (b : EngineView L D C) (s : StoreView D) (u : UpkeepsView) → b.store.holder ≡ None → s.holder ≡ None → s.meta.schema ≡ b.store.meta.schema → s.first ≡ b.store.first → ((k : ℕ) → (k ≡ n → ⊥) → upkeep_at k u.passes ≡ upkeep_at k b.upkeep.passes)
       → IsVisit n b (record b { store = s; upkeep = u })
-  side_visit b s u was home schema others = record {
+  side_visit b s u was home schema began others = record {
     line = inl refl;
     parts = λ k ne i. record {
       pass = record { session = part b.tablet.core k; place = place_at k b.tablet.places; out = out_of b.log.holder b.log.out k; runs = runs k b.running; upkeep = others k ne i };
       lent = lent_of b.log.holder b.log.known k;
       turn = turn_same b.store s was home k i;
-      root = record (root_of b) { columns = schema i };
+      root = record (root_of b) { columns = schema i; first_store = began i };
     };
   }
 
   -- and the tablet has stopped
-  broken_visit : (b : EngineView L D C) (s : StoreView D) (u : UpkeepsView) → b.store.holder ≡ None → s.holder ≡ None → s.meta.schema ≡ b.store.meta.schema → ((k : ℕ) → (k ≡ n → ⊥) → upkeep_at k u.passes ≡ upkeep_at k b.upkeep.passes)
+  broken_visit : (b : EngineView L D C) (s : StoreView D) (u : UpkeepsView) → b.store.holder ≡ None → s.holder ≡ None → s.meta.schema ≡ b.store.meta.schema → s.first ≡ b.store.first → ((k : ℕ) → (k ≡ n → ⊥) → upkeep_at k u.passes ≡ upkeep_at k b.upkeep.passes)
       → IsVisit n b (record b { tablet = record b.tablet { core = halted b.tablet.core }; store = s; upkeep = u })
-  broken_visit b s u was home schema others = record {
+  broken_visit b s u was home schema began others = record {
     line = inr (event.Stop, refl, inr refl);
     parts = λ k ne i. record {
       pass = record { session = part b.tablet.core k; place = place_at k b.tablet.places; out = out_of b.log.holder b.log.out k; runs = runs k b.running; upkeep = others k ne i };
       lent = lent_of b.log.holder b.log.known k;
       turn = turn_same b.store s was home k i;
-      root = record (root_of b) { columns = schema i };
+      root = record (root_of b) { columns = schema i; first_store = began i };
     };
   }
 
@@ -109,13 +109,13 @@ module _ {L D C : Type 0} (n : ℕ) where
     pub turned_visit : HasTurned out new → ((k : ℕ) → (k ≡ n → ⊥) → upkeep_at k new.upkeep.passes ≡ upkeep_at k b.upkeep.passes) → IsVisit n b new
     turned_visit t others =
         let all : new ≡ record b { store = new.store; upkeep = new.upkeep } = t.beside ∙ ap (λ (v : EngineView L D C). record v { store = new.store; upkeep = new.upkeep }) is in
-        subst (IsVisit n b) (sym all) (side_visit b new.store new.upkeep home t.home (t.columns ∙ ap (λ (v : EngineView L D C). v.store.meta.schema) is) others)
+        subst (IsVisit n b) (sym all) (side_visit b new.store new.upkeep home t.home (t.columns ∙ ap (λ (v : EngineView L D C). v.store.meta.schema) is) (t.began ∙ ap (λ (v : EngineView L D C). v.store.first) is) others)
 
     pub broken_turn : HasBroken out new → ((k : ℕ) → (k ≡ n → ⊥) → upkeep_at k out.upkeep.passes ≡ upkeep_at k b.upkeep.passes) → IsVisit n b new
     broken_turn t others =
         let all : new ≡ record b { tablet = record b.tablet { core = halted b.tablet.core }; store = new.store; upkeep = out.upkeep } =
         t.beside ∙ ap (λ (v : EngineView L D C). record v { tablet = record v.tablet { core = halted v.tablet.core }; store = new.store; upkeep = out.upkeep }) is in
-        subst (IsVisit n b) (sym all) (broken_visit b new.store out.upkeep home t.home (t.columns ∙ ap (λ (v : EngineView L D C). v.store.meta.schema) is) others)
+        subst (IsVisit n b) (sym all) (broken_visit b new.store out.upkeep home t.home (t.columns ∙ ap (λ (v : EngineView L D C). v.store.meta.schema) is) (t.began ∙ ap (λ (v : EngineView L D C). v.store.first) is) others)
 
     pub to_write : lent.device ≡ b.store.known → lent.meta ≡ None → (lent.next_rowset ≡ b.store.next_rowset) × (lent.next_file ≡ b.store.next_file) → IsTrue b.store.whole → LentToWrite n out.store lent
     to_write device none numbers whole = record {
@@ -127,18 +127,20 @@ module _ {L D C : Type 0} (n : ℕ) where
     }
 
   -- the store came home, or came home broken
-  pub came_home : (old new : EngineView L D C) (s : StoreView D) → new ≡ record old { store = s; upkeep = new.upkeep } → s.holder ≡ None → new.store.meta.schema ≡ old.store.meta.schema → HasTurned old new
-  came_home old new s is holder columns = record {
+  pub came_home : (old new : EngineView L D C) (s : StoreView D) → new ≡ record old { store = s; upkeep = new.upkeep } → s.holder ≡ None → new.store.meta.schema ≡ old.store.meta.schema → s.first ≡ old.store.first → HasTurned old new
+  came_home old new s is holder columns began = record {
     beside = is ∙ (λ k. record old { store = sym (ap (λ (v : EngineView L D C). v.store) is) k; upkeep = new.upkeep });
     home = ap (λ (v : EngineView L D C). v.store.holder) is ∙ holder;
     columns = columns;
+    began = ap (λ (v : EngineView L D C). v.store.first) is ∙ began;
   }
 
-  pub came_broken : (old new : EngineView L D C) (s : StoreView D) → new ≡ record old { tablet = new.tablet; store = s } → new.tablet ≡ record old.tablet { core = halted old.tablet.core } → s.holder ≡ None → s.meta ≡ old.store.meta → HasBroken old new
-  came_broken old new s is tablet holder meta = record {
+  pub came_broken : (old new : EngineView L D C) (s : StoreView D) → new ≡ record old { tablet = new.tablet; store = s } → new.tablet ≡ record old.tablet { core = halted old.tablet.core } → s.holder ≡ None → s.meta ≡ old.store.meta → s.first ≡ old.store.first → HasBroken old new
+  came_broken old new s is tablet holder meta began = record {
     beside = is ∙ (λ k. record old { tablet = tablet k; store = sym (ap (λ (v : EngineView L D C). v.store) is) k });
     home = ap (λ (v : EngineView L D C). v.store.holder) is ∙ holder;
     columns = ap (λ (v : EngineView L D C). v.store.meta.schema) is ∙ ap (λ m. m.schema) meta;
+    began = ap (λ (v : EngineView L D C). v.store.first) is ∙ began;
   }
 
 -- it has stopped then

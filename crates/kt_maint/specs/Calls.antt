@@ -12,7 +12,7 @@ use Rattle.kt_engine.specs.Jobs.{JobView, Last, none, nothing, begun, finished, 
 use Rattle.kt_engine.specs.declared.job.MaintNo.{MaintNo}
 use Rattle.kt_engine.specs.declared.job.MaintNo.TheVariants as no
 use Rattle.kt_maint.specs.Done.{FoundBy, HasGiven, HasDoneJob}
-use Rattle.kt_maint.specs.Outside.{IsAway, HasCome, ended}
+use Rattle.kt_maint.specs.Outside.{IsAway, HasCome, HasReadTheSame, ended}
 use Rattle.kt_maint.specs.declared.jobs.Start.{Start}
 use Rattle.kt_maint.specs.declared.jobs.Start.TheVariants as start
 use Rattle.kt_maint.specs.declared.outside.Outside.{Outside}
@@ -48,12 +48,18 @@ pub record HasAsked {L D C : Type 0} (last : Last) (before after : Option (PartV
   pub todo : part.pass.upkeep.todo ≡ without_want (want_of last) was.pass.upkeep.todo
   pub job : part.pass.upkeep.job ≡ None
 
--- a call for this want
+-- it has no job
+pub record HasNoJob {L D C : Type 0} (told : Option (PartView L D C)) : Type 0 where
+  pub part : PartView L D C
+  pub is : told ≡ Some part
+  pub none : part.pass.upkeep.job ≡ None
+
+-- a call for this want: for want of memory a pass that had no job has none, and has no device
 abbrev pub AfterCall : {L D C : Type 0} → Want → Option (PartView L D C) → Option (PartView L D C) → List Event → Result Ran MaintNo → Type 0
 AfterCall w before after seen (Ok ran.Done) = HasAsked (finished w) before after × HasNoDevice after × HasDoneJob w after
 AfterCall w before after seen (Ok ran.Nothing) = HasAsked (nothing w) before after × HasNoDevice after
 AfterCall w before after seen (Err no.Stopped) = (has_stop seen ≡ true) × HasNoDevice after
-AfterCall w before after seen (Err no.Memory) = HasNoDevice after
+AfterCall w before after seen (Err no.Memory) = HasNoDevice after × (HasNoJob before → HasNoJob after)
 
 -- it has what it had of maintenance
 pub record SameUpkeep {L D C : Type 0} (before after : Option (PartView L D C)) : Type 0 where
@@ -69,7 +75,7 @@ AfterTurn w before after seen turn.Done = HasAsked (finished w) before after × 
 AfterTurn w before after seen turn.Nothing = HasAsked (nothing w) before after × HasNoDevice after
 AfterTurn w before after seen turn.Wait = SameUpkeep before after × HasNoDevice after
 AfterTurn w before after seen turn.Stopped = (has_stop seen ≡ true) × HasNoDevice after
-AfterTurn w before after seen turn.Memory = HasNoDevice after
+AfterTurn w before after seen turn.Memory = HasNoDevice after × (HasNoJob before → HasNoJob after)
 
 -- it asked once more, and its job for this want is outside
 pub record IsBetween {L D C : Type 0} (tells : Bool) (seen : D → Files) (n : ℕ) (w : Want) (out : Outside D) (before after : Option (PartView L D C)) : Type 0 where
@@ -98,7 +104,7 @@ pub record ComesTo {L D C : Type 0} (tells : Bool) (seen : D → Files) (now : D
   pub is : told ≡ Some part
   pub come : HasCome tells seen now leaves faults n outcome.bound outcome.most outcome.lent outcome.written part
 
--- its job was outside, and is done
+-- its job was outside, and is done with what was read of it
 pub record HasEndedJob {L D C : Type 0} (before after : Option (PartView L D C)) : Type 0 where
   pub was : PartView L D C
   pub was_is : before ≡ Some was
@@ -108,13 +114,14 @@ pub record HasEndedJob {L D C : Type 0} (before after : Option (PartView L D C))
   pub is : after ≡ Some part
   pub job : JobView
   pub upkeep : part.pass.upkeep ≡ ended its.want job was.pass.upkeep
+  pub same : HasReadTheSame its job
   pub given : HasGiven (FoundBy part.root) its.want job
 
 -- the last visit of a job that was outside
 abbrev pub AfterEnd : {L D C : Type 0} → Option (PartView L D C) → Option (PartView L D C) → List Event → Result (Unit {0}) MaintNo → Type 0
 AfterEnd before after seen (Ok done) = HasEndedJob before after × HasNoDevice after
 AfterEnd before after seen (Err no.Stopped) = (has_stop seen ≡ true) × HasNoDevice after
-AfterEnd before after seen (Err no.Memory) = HasNoDevice after
+AfterEnd before after seen (Err no.Memory) = HasNoDevice after × HasNoJob after
 
 -- how a call ends whose job was outside
 abbrev pub ran_of : Result (Unit {0}) MaintNo → Result Ran MaintNo

@@ -36,10 +36,11 @@ pub record AreMerged (found : Past → Type 0) (job : JobView) (made : List RowS
   pub rows : (first : Past) → found first → HaveEach (record { mark = job.mark; bound = job.bound }) inputs (told_by_all made)
   pub alike : (first : Past) → found first → (q : List ℕ) → AreAlike job.mark (hists_upto job.bound q inputs) (hists_written q made)
 
--- What came to the disk rowsets of a compaction while it wrote. Where opening found a past they have behind what was read changes above its bound, and all of these in memory. Each output has those of its
--- own rows too, as REDO files more, and these were written
-pub record HasPutLate (found : Past → Type 0) (bound : ℕ) (inputs : Inputs) (out done : List RowSetData) : Type 0 where
+-- What came to the disk rowsets of a compaction while it wrote, as they were handed out when it came back. Where opening found a past they have behind what was read changes above its bound, and all of
+-- these in memory. Each output has those of its own rows too, as REDO files more, and these were written
+pub record HasPutLate (found : Past → Type 0) (bound : ℕ) (inputs : Inputs) (returned : Option (List RowSetData)) (out done : List RowSetData) : Type 0 where
   pub now : List RowSetData
+  pub is : returned ≡ Some now
   pub later : (first : Past) → found first → (q : List ℕ) → AllHaveLater bound (hists_of q inputs) (hists_now q now)
   pub in_memory : (first : Past) → found first → AllByRecursion (HasNoneAbove bound) now
   pub late : List RowSetData
@@ -48,9 +49,9 @@ pub record HasPutLate (found : Past → Type 0) (bound : ℕ) (inputs : Inputs) 
   pub again : AreAgain late done
 
 -- what a job that merges gives in the end, of what it wrote first: a compaction with what came meanwhile, and a flush just that
-abbrev pub EndsWith : (Past → Type 0) → Want → ℕ → Inputs → List RowSetData → List RowSetData → Type 0
-EndsWith found (want.Compact taken) bound inputs out done = HasPutLate found bound inputs out done
-EndsWith found _ bound inputs out done = done ≡ out
+abbrev pub EndsWith : (Past → Type 0) → Want → ℕ → Inputs → Option (List RowSetData) → List RowSetData → List RowSetData → Type 0
+EndsWith found (want.Compact taken) bound inputs returned out done = HasPutLate found bound inputs returned out done
+EndsWith found _ bound inputs returned out done = done ≡ out
 
 -- A flush or a compaction has taken what it is for. What it wrote first is what merging makes, under numbers that were given since it began, and it gives that with what came meanwhile
 pub record GivesMerged (found : Past → Type 0) (job : JobView) : Type 0 where
@@ -61,7 +62,7 @@ pub record GivesMerged (found : Past → Type 0) (job : JobView) : Type 0 where
   pub out : List RowSetData
   pub written : AreWritten first made out
   pub done : List RowSetData
-  pub ends : EndsWith found job.want job.bound merged.inputs out done
+  pub ends : EndsWith found job.want job.bound merged.inputs job.returned out done
   pub from : AreFrom job.first_rowset (map files_in done)
   pub metas : job.metas ≡ map (meta_in 0) done
   pub held : job.held ≡ map held_in done

@@ -93,7 +93,7 @@ pub record MayHandIn {L D C : Type 0} (tells : Bool) (seen : D → Files) (now :
   pub first : ℕ
   pub out : List RowSetData
   pub written : AreWritten first made out
-  pub ends : EndsWith (IsFound v) at.job.want at.job.bound merged.inputs out outputs
+  pub ends : EndsWith (IsFound v) at.job.want at.job.bound merged.inputs at.job.returned out outputs
 
 -- ---- its outputs are written and handed in: they are what its want asks for, and its superblock may go out
 

@@ -1,5 +1,5 @@
 -- A compaction outside the lock: what its pass has between its visits, and what was written meanwhile.
-use Rattle.std.specs.Prelude.{◌≡◌, ◌≢◌, ◌≤◌, ◌<◌, ◌+◌, ◌^◌, ℕ, Bool, true, IsTrue, List, length, map, max, Option, Some, None, Result, Ok, Err, IfOk}
+use Rattle.std.specs.Prelude.{◌≡◌, ◌≢◌, ◌≤◌, ◌<◌, ◌+◌, ◌^◌, ℕ, Bool, true, IsTrue, List, length, map, max, Some, None, Result, Ok, Err, IfOk}
 use Rattle.std.specs.FinMap.Entries.{find}
 use Rattle.kt_base.specs.Causes.{Rose}
 use Rattle.kt_disk.specs.Disk.{Files}
@@ -31,7 +31,7 @@ use Rattle.kt_engine.specs.declared.job.MaintNo.{MaintNo}
 use Rattle.kt_engine.specs.declared.job.MaintNo.TheVariants as no
 use Rattle.kt_engine.specs.declared.upkeep.Stage.TheVariants as stage
 use Rattle.kt_engine.specs.Engines.{EngineView, IsFound}
-use Rattle.kt_engine.specs.Jobs.{JobView, UpkeepView, asked, finished, job_of, upkeep_at, without_want}
+use Rattle.kt_engine.specs.Jobs.{JobView, UpkeepView, UpkeepsView, asked, finished, job_of, upkeep_at, without_want}
 use Rattle.kt_engine.specs.JobSteps.{TellPassing, HasInput, AtNewStage}
 use Rattle.kt_engine.specs.Logged.{PlanPasses}
 use Rattle.kt_engine.specs.Near.{most_rowsets, most_files}
@@ -193,6 +193,27 @@ pub record IsPutIn {L D C : Type 0} (tells : Bool) (seen : D → Files) (now : D
 abbrev pub ended : Want → JobView → UpkeepView → UpkeepView
 ended w job u = record u { last = finished w; todo = without_want w u.todo; job = None; done = Some job }
 
+-- a job has what was read of another, as of the same bound and with the same mark
+pub record HasReadTheSame (its job : JobView) : Type 0 where
+  pub inputs : job.inputs ≡ its.inputs
+  pub times : (job.bound ≡ its.bound) × (job.mark ≡ its.mark)
+
+-- the job of a pass has come further with what was read of it
+pub record KeepsRead (n : ℕ) (old new : UpkeepsView) : Type 0 where
+  pub its : JobView
+  pub had : job_of n old ≡ Some its
+  pub job : JobView
+  pub has : job_of n new ≡ Some job
+  pub same : HasReadTheSame its job
+
+-- and is done with it
+pub record EndsRead (n : ℕ) (old new : UpkeepsView) : Type 0 where
+  pub its : JobView
+  pub had : job_of n old ≡ Some its
+  pub job : JobView
+  pub done : (upkeep_at n new.passes).done ≡ Some job
+  pub same : HasReadTheSame its job
+
 -- and it has given what it was begun for
 pub record HasEnded {L D C : Type 0} (n : ℕ) (w : Want) (old new : EngineView L D C) : Type 0 where
   pub job : JobView
@@ -202,12 +223,12 @@ pub record HasEnded {L D C : Type 0} (n : ℕ) (w : Want) (old new : EngineView 
 -- how a job that was begun ends
 abbrev pub EndsAs : {L D C : Type 0} → ℕ → Want → EngineView L D C → EngineView L D C → Result (Unit {0}) MaintNo → Type 0
 EndsAs n w old new (Ok done) = HasEnded n w old new × HasNoDevice n new
-EndsAs n w old new (Err no.Memory) = HasNoDevice n new
+EndsAs n w old new (Err no.Memory) = HasNoDevice n new × (job_of n new.upkeep ≡ None)
 EndsAs n w old new (Err no.Stopped) = (new.tablet.core.stopped ≡ true) × HasNoDevice n new
 
 -- how the compaction of a pass, which has begun, left the lock: it is outside, or is given up
 abbrev pub LeftAs : {L D C : Type 0} → Bool → (D → Files) → ℕ → Want → EngineView L D C → EngineView L D C → Start Turn D → Type 0
-LeftAs tells seen n w old new (start.Over t) = (t ≡ turn.Memory) × HasNoDevice n new
+LeftAs tells seen n w old new (start.Over t) = (t ≡ turn.Memory) × HasNoDevice n new × (job_of n new.upkeep ≡ None)
 LeftAs tells seen n w old new (start.Out out) = IsAway tells seen n w out (part_in new n) × KeepsAsks n old.upkeep new.upkeep
 
 -- it has asked once more, and its job is outside

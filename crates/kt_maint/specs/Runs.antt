@@ -159,12 +159,14 @@ pub record HasTurned {L D C : Type 0} (old new : EngineView L D C) : Type 0 wher
   pub beside : new ≡ record old { store = new.store; upkeep = new.upkeep }
   pub home : new.store.holder ≡ None
   pub columns : new.store.meta.schema ≡ old.store.meta.schema
+  pub began : new.store.first ≡ old.store.first
 
 -- it has failed, which has stopped the tablet
 pub record HasBroken {L D C : Type 0} (old new : EngineView L D C) : Type 0 where
   pub beside : new ≡ record old { tablet = record old.tablet { core = halted old.tablet.core }; store = new.store }
   pub home : new.store.holder ≡ None
   pub columns : new.store.meta.schema ≡ old.store.meta.schema
+  pub began : new.store.first ≡ old.store.first
 
 -- the job's outputs are these, whose numbers it may use
 pub record JobHas {L D C : Type 0} (v : EngineView L D C) (n : ℕ) (s : Stage) (out : List RowSetData) : Type 0 where
@@ -195,7 +197,7 @@ abbrev pub RunsAs : {L D C : Type 0} → ℕ → Want → EngineView L D C → E
 RunsAs n w old new turn.Done = HasRun n w old new × HasNoDevice n new
 RunsAs n w old new turn.Nothing = (upkeep_at n new.upkeep.passes ≡ asked_for_nothing w (upkeep_at n old.upkeep.passes)) × (job_of n new.upkeep ≡ None) × HasNoDevice n new
 RunsAs n w old new turn.Wait = (upkeep_at n new.upkeep.passes ≡ upkeep_at n old.upkeep.passes) × HasNoDevice n new
-RunsAs n w old new turn.Memory = HasNoDevice n new
+RunsAs n w old new turn.Memory = HasNoDevice n new × (job_of n old.upkeep ≡ None → job_of n new.upkeep ≡ None)
 RunsAs n w old new turn.Stopped = (new.tablet.core.stopped ≡ true) × HasNoDevice n new
 
 -- The store is out to publish the superblock of this pass's job, which comes behind the published one

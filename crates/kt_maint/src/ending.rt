@@ -2,11 +2,11 @@
 ghost use Rattle.std.specs.Prelude.{◌≡◌, ◌≢◌, [], false, true, None, Some, Ok, Err, OnOk};
 ghost use Rattle.kt_base.specs.Causes.{Rose};
 ghost use Rattle.kt_pick.specs.declared.rules.Want.{Want};
-ghost use Rattle.kt_engine.specs.Jobs.{JobView, job_of};
+ghost use Rattle.kt_engine.specs.Jobs.{JobView, job_of, upkeep_at};
 ghost use Rattle.kt_engine.specs.Visits.{IsVisit, part_in};
-ghost use Rattle.kt_maint.specs.Runs.{HasNoDevice, IsReady, KeepsAsks, MayAbandon, StandsAs};
+ghost use Rattle.kt_maint.specs.Runs.{IsReady, KeepsAsks, MayAbandon, StandsAs};
 ghost use Rattle.kt_maint.specs.JobRuns.{MayEnd, MayHandIn};
-ghost use Rattle.kt_maint.specs.Outside.{EndsAs, HasCome, HasEnded, MayComeHome};
+ghost use Rattle.kt_maint.specs.Outside.{EndsAs, EndsRead, HasCome, HasEnded, KeepsRead, MayComeHome};
 
 use crate::handing::hand_in;
 use crate::late::put_late;
@@ -33,7 +33,7 @@ fn take_home<L: Disk, D: Disk + Drop, C: Clock>(
     requires out { engine.old.store.holder ≡ Some by }
     requires may { MayComeHome D.tells D.seen D.now D.leaves D.faults engine.old.first_rowset engine.old.first_file engine.old.store lent }
     ensures visit { IsVisit by engine.old engine.new }
-    ensures home { engine.new ≡ record engine.old { store = record { home = Some lent.device; known = lent.device; holder = None; meta = engine.old.store.meta; lent = None; next_rowset = lent.next_rowset; next_file = lent.next_file; whole = true } } }
+    ensures home { engine.new ≡ record engine.old { store = record engine.old.store { home = Some lent.device; known = lent.device; holder = None; lent = None; next_rowset = lent.next_rowset; next_file = lent.next_file; whole = true } } }
 {
     // The published superblock stands on the device that went out.
     engine.standing();
@@ -59,6 +59,16 @@ fn take_broken<L: Disk, D: Disk + Drop, C: Clock>(
     engine.stop(by, Broken::Store(lent));
 }
 
+/// Gives the job of this pass up, which publishes nothing.
+pub fn let_go<L: Disk, D: Disk + Drop, C: Clock>(engine: &mut Engine<L, D, C>, by: u32)
+    requires job { MayAbandon engine.old by }
+    ensures visit { IsVisit by engine.old engine.new }
+    ensures beside { engine.new ≡ record engine.old { upkeep = engine.new.upkeep } }
+    ensures none { job_of by engine.new.upkeep ≡ None }
+{
+    engine.job_abandon(by);
+}
+
 // Gives the job up, and takes the store home.
 fn give_up<L: Disk, D: Disk + Drop, C: Clock>(engine: &mut Engine<L, D, C>, by: u32, lent: Lent<D>)
     requires out { engine.old.store.holder ≡ Some by }
@@ -67,9 +77,10 @@ fn give_up<L: Disk, D: Disk + Drop, C: Clock>(engine: &mut Engine<L, D, C>, by: 
     ensures visit { IsVisit by engine.old engine.new }
     ensures tablet { engine.new.tablet ≡ engine.old.tablet }
     ensures home { (engine.new.log ≡ engine.old.log) × (engine.new.store.holder ≡ None) }
+    ensures none { job_of by engine.new.upkeep ≡ None }
 {
     take_home(engine, by, lent);
-    engine.job_abandon(by);
+    let_go(engine, by);
 }
 
 // The same after a write that failed: for want of memory the job is given up, and after a fault the tablet is stopped.
@@ -87,6 +98,7 @@ fn fail<L: Disk, D: Disk + Drop, C: Clock>(
     ensures still { StandsAs by engine.old engine.new }
     ensures home { (engine.new.log ≡ engine.old.log) × (engine.new.store.holder ≡ None) }
     ensures stopped { result ≡ MaintNo.Stopped → engine.new.tablet.core.stopped ≡ true }
+    ensures none { result ≡ MaintNo.Memory → job_of by engine.new.upkeep ≡ None }
 {
     match no {
         WriteNo::Memory => {
@@ -114,6 +126,8 @@ pub fn close<L: Disk, D: Disk + Drop, C: Clock>(
     ensures line { engine.new.tablet.core.trail ≡ engine.old.tablet.core.trail }
     ensures stopped { result ≡ Err MaintNo.Stopped → engine.new ≡ engine.old }
     ensures beside { (engine.new.log ≡ engine.old.log) × (engine.new.store ≡ engine.old.store) }
+    ensures none { result ≡ Err MaintNo.Memory → job_of by engine.new.upkeep ≡ None }
+    ensures done { OnOk result ((upkeep_at by engine.new.upkeep.passes).done ≡ job_of by engine.old.upkeep) }
     ensures ended { OnOk result ((want : Want) → MayEnd engine.old by want → HasEnded by want engine.old engine.new) }
 {
     match carried {
@@ -122,7 +136,7 @@ pub fn close<L: Disk, D: Disk + Drop, C: Clock>(
             Ok(())
         }
         Err(MaintNo::Memory) => {
-            engine.job_abandon(by);
+            let_go(engine, by);
             Err(MaintNo::Memory)
         }
         Err(MaintNo::Stopped) => Err(MaintNo::Stopped),
@@ -143,6 +157,7 @@ fn hand_over<L: Disk, D: Disk + Drop, C: Clock>(
     ensures log { engine.new.log ≡ engine.old.log }
     ensures asks { result ≢ Err MaintNo.Stopped → KeepsAsks by engine.old.upkeep engine.new.upkeep }
     ensures published { OnOk result ((want : Want) → MayHandIn D.tells D.seen D.now D.leaves engine.old by want outputs.rowsets → MayEnd engine.new by want) }
+    ensures reads { OnOk result (KeepsRead by engine.old.upkeep engine.new.upkeep) }
     ensures memory { result ≡ Err MaintNo.Memory → MayAbandon engine.new by }
     ensures stops { result ≡ Err MaintNo.Stopped → engine.new.tablet.core.stopped ≡ true }
     ensures home { engine.new.store.holder ≡ None }
@@ -167,6 +182,7 @@ fn end_home<L: Disk, D: Disk + Drop, C: Clock>(
     ensures visit { IsVisit by engine.old engine.new }
     ensures still { StandsAs by engine.old engine.new }
     ensures ends { (want : Want) → MayHandIn D.tells D.seen D.now D.leaves engine.old by want outputs.rowsets → EndsAs by want engine.old engine.new result }
+    ensures reads { OnOk result (EndsRead by engine.old.upkeep engine.new.upkeep) }
 {
     let carried = hand_over(alloc, engine, by, outputs);
     close(engine, by, carried)
@@ -189,6 +205,7 @@ fn end_settled<L: Disk, D: Disk + Drop, C: Clock>(
     ensures visit { IsVisit by engine.old engine.new }
     ensures still { StandsAs by engine.old engine.new }
     ensures ends { (job : JobView) → job_of by engine.old.upkeep ≡ Some job → EndsAs by job.want engine.old engine.new result }
+    ensures reads { OnOk result (EndsRead by engine.old.upkeep engine.new.upkeep) }
 {
     // The files that the published superblock names have numbers below those that were given.
     engine.standing();
@@ -226,6 +243,7 @@ fn end_written<L: Disk, D: Disk + Drop, C: Clock>(
     ensures visit { IsVisit by engine.old engine.new }
     ensures still { StandsAs by engine.old engine.new }
     ensures ends { (job : JobView) → job_of by engine.old.upkeep ≡ Some job → EndsAs by job.want engine.old engine.new result }
+    ensures reads { OnOk result (EndsRead by engine.old.upkeep engine.new.upkeep) }
 {
     // No superblock goes out while the job is outside.
     engine.standing();
@@ -257,6 +275,7 @@ pub fn end_now<L: Disk, D: Disk + Drop, C: Clock>(
     ensures visit { IsVisit by engine.old engine.new }
     ensures still { StandsAs by engine.old engine.new }
     ensures ends { (job : JobView) → job_of by engine.old.upkeep ≡ Some job → EndsAs by job.want engine.old engine.new result }
+    ensures reads { OnOk result (EndsRead by engine.old.upkeep engine.new.upkeep) }
 {
     // No superblock goes out while the job is outside.
     engine.standing();

@@ -7,7 +7,7 @@ ghost use Rattle.kt_maint.specs.JobRuns.{StaysInside, BeginsBy, HasBegunNow, IsW
 ghost use Rattle.kt_maint.specs.Outside.{EndsAs, StartsAs, LeftAs};
 
 use crate::deltas::write_made;
-use crate::ending::close;
+use crate::ending::{close, let_go};
 use crate::leaving::go_out;
 use crate::merging::write_flush;
 use crate::outside::Outside;
@@ -114,7 +114,7 @@ fn leave_now<L: Disk, D: Disk + Drop, C: Clock>(
     match go_out(alloc, engine, by) {
         Ok(out) => Start::Out(out),
         Err(NoMemory) => {
-            engine.job_abandon(by);
+            let_go(engine, by);
             Start::Over(Turn::Memory)
         }
     }

@@ -1,5 +1,5 @@
 //! What came to the disk rowsets of a compaction while it was outside the lock, put into what it wrote.
-ghost use Rattle.std.specs.Prelude.{◌≡◌, ◌≢◌, ◌≤◌, [], ℕ, false, None, Ok, IsTrue, IfOk, IsErr};
+ghost use Rattle.std.specs.Prelude.{◌≡◌, ◌≤◌, [], ℕ, false, None, Ok, IsTrue, IfOk};
 ghost use Rattle.std.specs.List.{AllByRecursion};
 ghost use Rattle.kt_outputs.specs.Again.{AllAddLate};
 ghost use Rattle.kt_outputs.specs.Outputs.{AreWhole, IsWhole};

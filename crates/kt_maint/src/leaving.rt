@@ -2,9 +2,8 @@
 ghost use Rattle.std.specs.Prelude.{◌≡◌, List, ℕ, None, IfOk, IsErr};
 ghost use Rattle.kt_engine.specs.Visits.{part_in};
 ghost use Rattle.kt_engine.specs.declared.upkeep.Stage.TheVariants as stage;
-ghost use Rattle.kt_pick.specs.declared.rules.Want.{Want};
 ghost use Rattle.kt_pick.specs.declared.rules.Want.TheVariants as want;
-ghost use Rattle.kt_maint.specs.Runs.{IsQuiet, IsReady, JobIsAt, LentToWrite, MayAbandon};
+ghost use Rattle.kt_maint.specs.Runs.{IsQuiet, IsReady, JobIsAt, MayAbandon};
 ghost use Rattle.kt_maint.specs.JobRuns.{MergeBegins};
 ghost use Rattle.kt_maint.specs.Outside.{HasRead, IsAway};
 

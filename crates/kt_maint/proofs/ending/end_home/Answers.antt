@@ -1,7 +1,9 @@
-use Rattle.std.proofs.Common.{ap, ◌∙◌}
+use Rattle.std.proofs.Common.{◌≡◌, ap, ◌∙◌}
 use Rattle.kt_pick.specs.declared.rules.Want.{Want}
+use Rattle.kt_engine.specs.Jobs.{job_of, upkeep_at}
+use Rattle.kt_maint.specs.Outside.{KeepsRead}
 use Rattle.kt_maint.specs.JobRuns.{MayEnd, MayHandIn}
-use Rattle.kt_maint.proofs.Begun.{ends_as_carried, on_ok}
+use Rattle.kt_maint.proofs.Begun.{ends_as_carried, keeps_done, on_both, on_ok}
 use Rattle.kt_maint.proofs.Readying.{none_has}
 use Rattle.kt_maint.proofs.Visiting.{visits_on, stands_behind}
 use Rattle.kt_maint.proofs.ending.end_home.Goals as goal
@@ -25,4 +27,11 @@ returns-clause-ends g c = λ w may.
     let b = c.hand_over-carried.new.engine in
     ends_as_carried c.args.by c.args.engine.now b c.close.new.engine w c.hand_over-carried.result c.close.result x.same x.beside.0 x.beside.1
     (none_has b.log.holder c.args.by (ap (λ l. l.holder) e.log ∙ c.requires.calm.settled.2)) e.home e.asks
-    (on_ok c.hand_over-carried.result ((x : Want) → MayHandIn g.D.Disk.tells g.D.Disk.seen g.D.Disk.now g.D.Disk.leaves c.args.engine.now c.args.by x c.args.outputs.rowsets → MayEnd b c.args.by x) (λ ends. ends w may) e.published) x.stopped e.stops x.ended
+    (on_ok c.hand_over-carried.result ((x : Want) → MayHandIn g.D.Disk.tells g.D.Disk.seen g.D.Disk.now g.D.Disk.leaves c.args.engine.now c.args.by x c.args.outputs.rowsets → MayEnd b c.args.by x) (λ ends. ends w may) e.published) x.stopped e.stops x.ended x.none
+
+pub returns-clause-reads : goal.returns-clause-reads
+returns-clause-reads g c =
+    let a = c.args.engine.now.upkeep in
+    let b = c.hand_over-carried.new.engine.upkeep in
+    let d = c.close.new.engine.upkeep in
+    on_both c.hand_over-carried.result c.close.result (KeepsRead c.args.by a b) ((upkeep_at c.args.by d.passes).done ≡ job_of c.args.by b) c.close.ensures.same (keeps_done c.args.by a b d) c.hand_over-carried.ensures.reads c.close.ensures.done

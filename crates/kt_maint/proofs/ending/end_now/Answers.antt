@@ -31,4 +31,4 @@ pub returns-in-Err-clause-ends : goal.returns-in-Err-clause-ends
 returns-in-Err-clause-ends g c = λ job has.
     let free = log_free c.args.by c.args.engine.now c.requires.come.away.log in
     ends_failed c.args.by job.want c.args.engine.now c.fail.new.engine c.fail.result
-    (record { log = ap (λ l. is_pass l.holder c.args.by) c.fail.ensures.home.0 ∙ free; store = none_has c.fail.new.engine.store.holder c.args.by c.fail.ensures.home.1 }) c.fail.ensures.stopped
+    (record { log = ap (λ l. is_pass l.holder c.args.by) c.fail.ensures.home.0 ∙ free; store = none_has c.fail.new.engine.store.holder c.args.by c.fail.ensures.home.1 }) c.fail.ensures.stopped c.fail.ensures.none

@@ -1,9 +1,10 @@
-use Rattle.std.proofs.Common.{Some, Ok, Err, refl, sym, ap, subst, ◌∙◌}
+use Rattle.std.proofs.Common.{Err, sym, ap, subst, ◌∙◌}
 use Rattle.kt_base.specs.Causes.{Rose}
 use Rattle.kt_maint.specs.JobRuns.{MayHandIn}
-use Rattle.kt_maint.specs.Outside.{IsPutIn, EndsAs}
+use Rattle.kt_maint.specs.Outside.{IsPutIn, EndsAs, EndsRead, KeepsRead}
 use Rattle.kt_maint.specs.Runs.{KeepsAsks}
-use Rattle.kt_maint.proofs.Begun.{ends_failed, ends_then}
+use Rattle.kt_maint.proofs.Begun.{ends_failed, ends_then, keeps_then, on_ok}
+use Rattle.kt_maint.proofs.Returns.{returned_read}
 use Rattle.kt_maint.proofs.LateWritten.{home_both, its_most, went_out, may_come_home, home_then, home_of, may_hand_in, rose_after}
 use Rattle.kt_maint.proofs.Readying.{no_device}
 use Rattle.kt_maint.proofs.Stages.{some_is}
@@ -114,4 +115,15 @@ returns-in-Err-clause-still g c =
 pub returns-in-Err-clause-ends : goal.returns-in-Err-clause-ends
 returns-in-Err-clause-ends g c = λ job has.
     ends_failed c.args.by job.want c.args.engine.now c.fail.new.engine c.fail.result
-    (no_device c.args.by c.fail.new.engine (ap (λ l. l.holder) (c.fail.ensures.home.0 ∙ c.put_late.ensures.quiet.log) ∙ c.requires.settled.2) c.fail.ensures.home.1) c.fail.ensures.stopped
+    (no_device c.args.by c.fail.new.engine (ap (λ l. l.holder) (c.fail.ensures.home.0 ∙ c.put_late.ensures.quiet.log) ∙ c.requires.settled.2) c.fail.ensures.home.1) c.fail.ensures.stopped c.fail.ensures.none
+
+pub returns-in-Ok-clause-reads : goal.returns-in-Ok-clause-reads
+returns-in-Ok-clause-reads g c =
+    let by = c.args.by in
+    let e0 = c.args.engine.now in
+    let e1 = c.put_late.new.engine in
+    let e2 = c.take_home.new.engine in
+    let e3 = c.end_home.new.engine in
+    let put = c.in-Ok.ensures.put in
+    let keeps = subst (KeepsRead by e0.upkeep) (sym (ap (λ v. v.upkeep) c.take_home.ensures.home)) (returned_read g.D.Disk.tells by put.job put.list e0 e1 put.had put.back) in
+    on_ok c.end_home.result (EndsRead by e2.upkeep e3.upkeep) (keeps_then by e0.upkeep e2.upkeep e3.upkeep keeps) c.end_home.ensures.reads

@@ -1,5 +1,7 @@
-use Rattle.std.proofs.Common.{sym, ap, ◌∙◌}
+use Rattle.std.proofs.Common.{sym, ap, subst, ◌∙◌}
+use Rattle.std.specs.Prelude.{OnOk}
 use Rattle.kt_engine.specs.Jobs.{job_of}
+use Rattle.kt_maint.specs.Outside.{EndsRead}
 use Rattle.kt_maint.specs.Runs.{is_pass}
 use Rattle.kt_maint.proofs.Begun.{ends_then}
 use Rattle.kt_maint.proofs.LateWritten.{log_free, went_out, may_come_home, may_give_up, home_same, abandon_same}
@@ -85,4 +87,7 @@ returns-in-Memory-clause-still g c = stands_same c.args.by c.args.engine.now c.g
 
 pub returns-in-Memory-clause-ends : goal.returns-in-Memory-clause-ends
 returns-in-Memory-clause-ends g c = λ job has.
-    record { log = ap (λ l. is_pass l.holder c.args.by) c.give_up.ensures.home.0 ∙ c.in-Memory.ensures.settles.3; store = none_has c.give_up.new.engine.store.holder c.args.by c.give_up.ensures.home.1 }
+    (record { log = ap (λ l. is_pass l.holder c.args.by) c.give_up.ensures.home.0 ∙ c.in-Memory.ensures.settles.3; store = none_has c.give_up.new.engine.store.holder c.args.by c.give_up.ensures.home.1 }, c.give_up.ensures.none)
+
+pub returns-in-Yes-clause-reads : goal.returns-in-Yes-clause-reads
+returns-in-Yes-clause-reads g c = subst (λ u. OnOk c.end_settled.result (EndsRead c.args.by u c.end_settled.new.engine.upkeep)) c.in-Yes.ensures.settles.3 c.end_settled.ensures.reads

@@ -1,12 +1,11 @@
-use Rattle.std.proofs.Common.{Some, sym, ap, subst, ◌∙◌}
-use Rattle.kt_engine.specs.Jobs.{job_of}
+use Rattle.std.proofs.Common.{sym, ap, subst, ◌∙◌}
 use Rattle.kt_engine.specs.JobCalls.{GivesOne}
 use Rattle.kt_engine.specs.JobSteps.{IsMerge}
 use Rattle.kt_engine.proofs.JobCalls.{as_merge}
 use Rattle.kt_maint.specs.JobRuns.{MayEnd, MayHandIn}
 use Rattle.kt_maint.proofs.Begun.{all_ok}
 use Rattle.kt_maint.proofs.JobEnds.{to_go, may_end}
-use Rattle.kt_maint.proofs.Returns.{hand_in_written, written_by}
+use Rattle.kt_maint.proofs.Returns.{hand_in_written, published_read, written_by}
 use Rattle.kt_maint.proofs.Stages.{some_is, ready_then}
 use Rattle.kt_maint.proofs.Visiting.{asks_then, visit_then, stands_same, stands_then}
 use Rattle.kt_maint.proofs.ending.hand_over.Goals as goal
@@ -84,3 +83,8 @@ returns-clause-published g c =
     let written = written_by g.D.Disk.tells g.D.Disk.seen g.D.Disk.now g.D.Disk.leaves e1 by x
     (hand_in_written g.D.Disk.tells g.D.Disk.seen g.D.Disk.now g.D.Disk.leaves by x e0 e1 c.args.outputs.rowsets may c.hand_in.ensures.beside c.in-Ok.ensures.written c.fewer_law.ensures.stand c.written_law.ensures.told is_ready) in
     may_end g.D.Disk.tells g.D.Disk.seen g.D.Disk.now g.D.Disk.leaves by x e1 written c.publish_job.new.engine c.publish_job.result c.publish_job.ensures.published c.publish_job.ensures.visit c.publish_job.ensures.asks)
+
+pub returns-clause-reads : goal.returns-clause-reads
+returns-clause-reads g c =
+    let at = c.requires.may.1.at in
+    published_read c.args.by at.job c.args.outputs.rowsets c.args.engine.now c.hand_in.new.engine c.publish_job.new.engine c.publish_job.result at.has at.want (c.in-Ok.ensures.written at.job at.has) c.publish_job.ensures.published

@@ -1,4 +1,4 @@
-use Rattle.std.proofs.Common.{◌≡◌, ◌≤◌, sym, ap, subst, ◌∙◌, arith}
+use Rattle.std.proofs.Common.{◌≤◌, sym, subst, ◌∙◌, arith}
 use Rattle.kt_engine.specs.Moments.{LeavesInTurn}
 use Rattle.kt_storeside.proofs.Named.{first_file}
 use Rattle.kt_maint.proofs.Turns.{left_turn, super_stays, slots_stay}

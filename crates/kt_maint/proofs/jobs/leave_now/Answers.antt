@@ -7,7 +7,8 @@ returns-in-Ok-clause-left g c = λ taken begins. (c.in-Ok.ensures.away taken beg
 
 pub returns-in-Err-clause-left : goal.returns-in-Err-clause-left
 returns-in-Err-clause-left g c = λ taken begins.
-    let beside = c.job_abandon.ensures.beside in (
+    let beside = c.let_go.ensures.beside in (
       refl,
-      no_device c.args.by c.job_abandon.new.self (ap (λ v. v.log.holder) beside ∙ ap (λ l. l.holder) c.go_out.ensures.quiet.log ∙ c.requires.calm.settled.2) (ap (λ v. v.store.holder) beside ∙ c.in-Err.ensures.home refl),
+      no_device c.args.by c.let_go.new.engine (ap (λ v. v.log.holder) beside ∙ ap (λ l. l.holder) c.go_out.ensures.quiet.log ∙ c.requires.calm.settled.2) (ap (λ v. v.store.holder) beside ∙ c.in-Err.ensures.home refl),
+      c.let_go.ensures.none,
     )

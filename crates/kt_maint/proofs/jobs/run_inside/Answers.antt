@@ -13,7 +13,7 @@ returns-clause-ends g c =
     let e = c.carry_out-carried.ensures in
     let x = c.close.ensures in
     ends_as_carried c.args.by c.args.engine.now c.carry_out-carried.new.engine c.close.new.engine c.args.want.now c.carry_out-carried.result c.close.result x.same x.beside.0 x.beside.1
-    (none_has c.carry_out-carried.new.engine.log.holder c.args.by (ap (λ l. l.holder) e.log ∙ c.requires.calm.settled.2)) e.home e.asks e.published x.stopped e.stops x.ended
+    (none_has c.carry_out-carried.new.engine.log.holder c.args.by (ap (λ l. l.holder) e.log ∙ c.requires.calm.settled.2)) e.home e.asks e.published x.stopped e.stops x.ended x.none
 
 pub returns-clause-visit : goal.returns-clause-visit
 returns-clause-visit g c = visits_on c.args.by c.args.engine.now c.carry_out-carried.new.engine c.close.new.engine c.carry_out-carried.ensures.visit c.close.ensures.line c.close.ensures.visit

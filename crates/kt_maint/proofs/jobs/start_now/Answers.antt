@@ -1,6 +1,6 @@
-use Rattle.std.proofs.Common.{sym, subst}
+use Rattle.std.proofs.Common.{subst}
 use Rattle.kt_maint.specs.JobRuns.{BeginsBy}
-use Rattle.kt_maint.proofs.Begun.{has_run, runs_then, starts_as}
+use Rattle.kt_maint.proofs.Begun.{starts_as}
 use Rattle.kt_maint.proofs.jobs.start_now.Goals as goal
 
 pub leave_now-requires-clause-begun : goal.leave_now-requires-clause-begun

@@ -2,7 +2,7 @@ use Rattle.std.proofs.Common.{◌≡◌, map, Err, None, Some, sym, ap, ◌∙�
 use Rattle.kt_history.specs.Machine.{least}
 use Rattle.kt_histlaws.specs.Core.{flown_by}
 use Rattle.kt_engine.proofs.JobCalls.{by_merge}
-use Rattle.kt_maint.proofs.Stages.{goes_on, quiet_stage, may_abandon}
+use Rattle.kt_maint.proofs.Stages.{quiet_stage}
 use Rattle.kt_maint.proofs.leaving.read.Goals as goal
 
 none_some : {A : Type 0} (x : A) → None ≡ Some x → ⊥

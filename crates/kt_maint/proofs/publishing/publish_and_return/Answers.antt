@@ -22,7 +22,7 @@ pub returns-in-Err-Memory-clause-memory : goal.returns-in-Err-Memory-clause-memo
 returns-in-Err-Memory-clause-memory g c = λ job has stops. let p = c.requires.publishing in c.store_home-in-Err-Memory.ensures.came job p.meta p.is.0 p.own.0 has
 
 pub returns-in-Err-Fault-clause-broken : goal.returns-in-Err-Fault-clause-broken
-returns-in-Err-Fault-clause-broken g c = λ stops. came_broken c.args.by c.args.engine.now _ _ (c.stop.ensures.store_home _ refl) (c.stop.ensures.core c.requires.goes) refl refl
+returns-in-Err-Fault-clause-broken g c = λ stops. came_broken c.args.by c.args.engine.now _ _ (c.stop.ensures.store_home _ refl) (c.stop.ensures.core c.requires.goes) refl refl refl
 
 pub returns-in-Err-Fault-clause-numbers : goal.returns-in-Err-Fault-clause-numbers
 returns-in-Err-Fault-clause-numbers g c = ap (λ v. v.store.next_rowset) (c.stop.ensures.store_home _ refl)

@@ -1,6 +1,5 @@
-use Rattle.std.proofs.Common.{Some, sym, ap, subst, ◌∙◌}
+use Rattle.std.proofs.Common.{sym, subst, ◌∙◌}
 use Rattle.kt_seatlock.specs.Passes.{number, seen, part}
-use Rattle.kt_engine.specs.Calls.{SeesOthers}
 use Rattle.kt_engine.specs.Visits.{part_in}
 use Rattle.kt_maint.specs.Outside.{HasCome}
 use Rattle.kt_maint.specs.Runs.{AddsStop}
@@ -39,4 +38,4 @@ returns-clause-end g c =
     let was = told_by (part c.args.pass.now) x (number c.args.pass.now) by c.enter_quiet-engine.ensures.part.0 (sym c.number-by.ensures) in
     let is = told_by (part c.leave.new.pass) y (number c.leave.new.pass) by c.leave.ensures.told.1 (c.leave.ensures.pass.0.1 ∙ c.enter_quiet-engine.ensures.pass.0.1 ∙ sym c.number-by.ensures) in
     let come = subst (λ p. HasCome g.D.Disk.tells g.D.Disk.seen g.D.Disk.now g.D.Disk.leaves g.D.Disk.faults (number c.args.pass.now) c.args.outcome.bound c.args.outcome.most c.args.outcome.lent c.args.outcome.written p) (some_is c.requires.comes.part (part_in x by) (sym c.requires.comes.is ∙ was)) c.requires.comes.come in
-    after_end (part c.args.pass.now) (part c.leave.new.pass) x y by was is c.end_now-ended.ensures.visit come.away.job come.away.own c.end_now-ended.result (seen c.leave.new.pass) c.standing.ensures.stops c.leave.ensures.told.0 (c.end_now-ended.ensures.ends come.away.job come.away.own)
+    after_end (part c.args.pass.now) (part c.leave.new.pass) x y by was is c.end_now-ended.ensures.visit come.away.job come.away.own c.end_now-ended.result (seen c.leave.new.pass) c.standing.ensures.stops c.leave.ensures.told.0 (c.end_now-ended.ensures.ends come.away.job come.away.own) c.end_now-ended.ensures.reads

@@ -1,7 +1,6 @@
 use Rattle.std.proofs.Common.{rules, refl, sym, ap, subst, ◌∙◌}
 use Rattle.kt_seatlock.specs.Passes.{number, seen, part}
 use Rattle.kt_engine.specs.Calls.{SeesOthers}
-use Rattle.kt_engine.specs.Visits.{part_in}
 use Rattle.kt_maint.proofs.Calling.{sees_itself, sees_then, told_by}
 use Rattle.kt_maint.proofs.run.enter_quiet.Goals as goal
 

@@ -7,3 +7,6 @@ returns-in_default-clause-still g c = (still_itself (part c.args.pass.now) c.req
 
 pub returns-in_default-clause-quiet : goal.returns-in_default-clause-quiet
 returns-in_default-clause-quiet g c = sees_itself (number c.args.pass.now) (seen c.args.pass.now)
+
+pub returns-in_default-clause-call : goal.returns-in_default-clause-call
+returns-in_default-clause-call g c = (c.requires.home, λ none. none)

@@ -3,7 +3,7 @@ use Rattle.kt_seatlock.specs.Passes.{number, seen, part}
 use Rattle.kt_engine.specs.Calls.{SeesOthers, HasNoDevice, StandsStill}
 use Rattle.kt_maint.specs.Calls.{AfterCall, HasAway, SameUpkeep}
 use Rattle.kt_maint.specs.declared.tries.Turn.TheVariants as turn
-use Rattle.kt_maint.proofs.Between.{call_ended, call_since, has_away, turn_at}
+use Rattle.kt_maint.proofs.Between.{call_ended, call_since, has_away, memory_since, turn_at}
 use Rattle.kt_maint.proofs.Calling.{still_itself, still_then, same_then, done_then, nothing_then, sees_itself, sees_then}
 use Rattle.kt_maint.proofs.run.run_job.Goals as goal
 
@@ -40,7 +40,9 @@ pub returns-in-Over-Stopped-clause-call : goal.returns-in-Over-Stopped-clause-ca
 returns-in-Over-Stopped-clause-call g c = turn_at c.args.want.now (part c.tries.pass) (part c.try_job.new.pass) (seen c.try_job.new.pass) c.in-Over-Stopped.field-0 turn.Stopped c.in-Over-Stopped.field-0-is c.in-Over-Stopped.ensures.start
 
 pub returns-in-Over-Memory-clause-call : goal.returns-in-Over-Memory-clause-call
-returns-in-Over-Memory-clause-call g c = turn_at c.args.want.now (part c.tries.pass) (part c.try_job.new.pass) (seen c.try_job.new.pass) c.in-Over-Memory.field-0 turn.Memory c.in-Over-Memory.field-0-is c.in-Over-Memory.ensures.start
+returns-in-Over-Memory-clause-call g c =
+    memory_since (part c.args.pass.now) (part c.tries.pass) (part c.try_job.new.pass) c.args.want.now (seen c.try_job.new.pass) c.tries.invariant.3
+    (turn_at c.args.want.now (part c.tries.pass) (part c.try_job.new.pass) (seen c.try_job.new.pass) c.in-Over-Memory.field-0 turn.Memory c.in-Over-Memory.field-0-is c.in-Over-Memory.ensures.start)
 
 -- a compaction
 pub end_outside-requires-clause-away : goal.end_outside-requires-clause-away

@@ -65,7 +65,7 @@ stop-requires-clause-one_of g c = λ lent same.
     (subst (λ d. AreStable g.D.Disk.seen g.D.Disk.now g.D.Disk.leaves d) (sym c.requires.lent.device) (c.standing.ensures.side.publishes told).slots)))
 
 pub returns-in-Err-Fault-clause-broken : goal.returns-in-Err-Fault-clause-broken
-returns-in-Err-Fault-clause-broken g c = λ stops. came_broken c.args.by c.args.engine.now _ _ (c.stop.ensures.store_home _ refl) (c.stop.ensures.core c.requires.goes) refl refl
+returns-in-Err-Fault-clause-broken g c = λ stops. came_broken c.args.by c.args.engine.now _ _ (c.stop.ensures.store_home _ refl) (c.stop.ensures.core c.requires.goes) refl refl refl
 
 pub returns-in-Ok-clause-files : goal.returns-in-Ok-clause-files
 returns-in-Ok-clause-files g c =
