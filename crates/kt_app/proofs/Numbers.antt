@@ -1,9 +1,11 @@
 -- The files beside the log, and the numbers that a run adds to those that both devices had.
-use Rattle.std.proofs.Common.{◌≡◌, ℕ, ◌+◌, ◌<◌, ◌≤◌, max, List, [], ◌∷◌, map, length, zero, suc, Option, Some, None, Result, Ok, Err, inl, inr, refl, sym, ap, subst, ◌∙◌, arith, Bool, true, false, cond}
+use Rattle.std.proofs.Common.{◌≡◌, ℕ, ◌+◌, ◌<◌, ◌≤◌, max, List, [], ◌∷◌, ◌++◌, map, length, zero, suc, Option, Some, None, Result, Ok, Err, inl, inr, refl, sym, ap, subst, ◌∙◌, arith, Bool, true, false, cond, leb, ltb, ◌&&◌}
 use Rattle.std.specs.Prelude.{◌⊎◌, IsTrue, ◌^◌, ◌==◌, nat_lt, unwrap_or}
 use Rattle.std.specs.List.{All, Contains, flat_map}
 use Rattle.std.proofs.lemmas.List.Elements.{All-nil, All-cons, All-head, All-tail, All-append, All-contains, Contains-append_cases, Contains-append_left, Contains-append_right}
+use Rattle.std.proofs.lemmas.Bool.{ltb-true}
 use Rattle.std.proofs.lemmas.Grind.{flat_map-append}
+use Rattle.kt_base.proofs.Values.{both_true}
 use Rattle.kt_disk.specs.Disk.{Files, held}
 use Rattle.kt_history.specs.declared.target.Target.{Target}
 use Rattle.kt_history.specs.declared.target.Target.TheVariants.{Mem, Delta}
@@ -16,7 +18,10 @@ use Rattle.kt_journal.specs.Numbers as journal
 use Rattle.kt_journal.proofs.Faults.{same_log}
 use Rattle.kt_journal.proofs.Near.{image_up_to}
 use Rattle.kt_super.specs.declared.meta.Meta.{Meta}
+use Rattle.kt_super.specs.declared.meta.FileRef.{FileRef}
 use Rattle.kt_super.specs.declared.meta.MetaRowset.{MetaRowset}
+use Rattle.kt_super.specs.Body.{IsMeta}
+use Rattle.kt_super.specs.Rowsets.{numbers_of as files_of, IsFile, AreFiles, IsRowset, taken_by, AreRowsets}
 use Rattle.kt_super.specs.declared.refusal.Place.{Place as Fault}
 use Rattle.kt_super.specs.Slots.{super_of, slot_at, newer, of_both}
 use Rattle.kt_rowfiles.specs.Files.{DiskRowset}
@@ -32,13 +37,14 @@ use Rattle.kt_reopen.specs.declared.why.Why.{Why}
 use Rattle.kt_reopen.specs.Both.{Read, Found, Answers, AnswersLater, read_both, count_why, unless, super_in, stores_after, nothing, found_or_late}
 use Rattle.kt_reopen.specs.Both.Answers.{at_once, first, later}
 use Rattle.kt_reopen.specs.Both.AnswersLater.{in_file, in_column, too_late, whole}
+use Rattle.kt_storeside.specs.Supers.{SpellNoOther}
 use Rattle.kt_reopen.specs.Holding.{IsOfStore}
 use Rattle.kt_reopen.specs.Opened.{found_of, first_meta}
 use Rattle.kt_reopen.specs.Numbers.{next_rowset, behind_rowsets, named_of, named_by, greatest_mem, greatest_dms, dms_under, name_of}
 use Rattle.kt_engine.specs.Engines.{KeepsOthers}
 use Rattle.kt_engine.specs.Logged.{HoldsRecords}
 use Rattle.kt_engine.specs.Near.{NamesEach, IsUpTo, IsBelow}
-use Rattle.kt_app.specs.Images.{Image, CrashLeaves, Both, KeepsFrames, KeepsFiles, IsSlotNumber, numbers_by, numbers_in as spelled, AreUpTo, LogIsNear}
+use Rattle.kt_app.specs.Images.{Image, CrashLeaves, Both, KeepsFrames, KeepsFiles, IsSlotNumber, numbers_by, numbers_in as spelled, AreUpTo, given_by, given_in, IsGivenNumber, NumbersAreNear, IsMadeNear, SpellNear}
 
 -- ---- the files beside the log
 
@@ -272,28 +278,144 @@ found_low b columns log store f low (first read e) =
 found_low b columns log store f low (later m records read behind) =
     later_low b columns m records store f (λ n has. low n (spelled_there store m n (its_super (super_of store) (log_of log) m records read) has)) behind
 
--- ---- a log that is near
+-- ---- the numbers of rowsets and files
+
+has_next : (m : Meta) → Contains (spelled m) m.next_rowset
+has_next m = has_rest m.number (m.last_mem ∷ m.next_rowset ∷ m.next_file ∷ flat_map numbers_by m.rowsets) m.next_rowset (has_rest m.last_mem (m.next_rowset ∷ m.next_file ∷ flat_map numbers_by m.rowsets) m.next_rowset (has_first m.next_rowset (m.next_file ∷ flat_map numbers_by m.rowsets)))
+
+has_file : (m : Meta) → Contains (spelled m) m.next_file
+has_file m = has_rest m.number (m.last_mem ∷ m.next_rowset ∷ m.next_file ∷ flat_map numbers_by m.rowsets) m.next_file (has_rest m.last_mem (m.next_rowset ∷ m.next_file ∷ flat_map numbers_by m.rowsets) m.next_file
+    (has_rest m.next_rowset (m.next_file ∷ flat_map numbers_by m.rowsets) m.next_file (has_first m.next_file (flat_map numbers_by m.rowsets))))
+
+has_rows : (m : Meta) (n : ℕ) → Contains (flat_map numbers_by m.rowsets) n → Contains (spelled m) n
+has_rows m n has = has_rest m.number (m.last_mem ∷ m.next_rowset ∷ m.next_file ∷ flat_map numbers_by m.rowsets) n (has_rest m.last_mem (m.next_rowset ∷ m.next_file ∷ flat_map numbers_by m.rowsets) n
+    (has_rest m.next_rowset (m.next_file ∷ flat_map numbers_by m.rowsets) n (has_rest m.next_file (flat_map numbers_by m.rowsets) n has)))
+
+-- they are among all that it spells
+row_spelled : (r : MetaRowset) (n : ℕ) → Contains (given_by r) n → Contains (numbers_by r) n
+row_spelled r n has = elim (first_or r.rowset (r.base.file ∷ (files_of r.undo ++ files_of r.redo)) n has) [
+  | inl is ↦ subst (Contains (numbers_by r)) is (has_first r.rowset (r.last_dms ∷ r.base.file ∷ (files_of r.undo ++ files_of r.redo)))
+  | inr more ↦ has_rest r.rowset (r.last_dms ∷ r.base.file ∷ (files_of r.undo ++ files_of r.redo)) n (has_rest r.last_dms (r.base.file ∷ (files_of r.undo ++ files_of r.redo)) n more)
+]
+
+rows_spelled : (rs : List MetaRowset) (n : ℕ) → Contains (flat_map given_by rs) n → Contains (flat_map numbers_by rs) n
+rows_spelled [] n has = absurd (no_number n has)
+rows_spelled (r ∷ rs) n has = elim (Contains-append_cases (given_by r) (flat_map given_by rs) n has) [
+  | inl own ↦ Contains-append_left (numbers_by r) (flat_map numbers_by rs) n (row_spelled r n own)
+  | inr behind ↦ Contains-append_right (numbers_by r) (flat_map numbers_by rs) n (rows_spelled rs n behind)
+]
+
+given_spelled : (m : Meta) (n : ℕ) → Contains (given_in m) n → Contains (spelled m) n
+given_spelled m n has = elim (first_or m.next_rowset (m.next_file ∷ flat_map given_by m.rowsets) n has) [
+  | inl is ↦ subst (Contains (spelled m)) is (has_next m)
+  | inr more ↦ elim (first_or m.next_file (flat_map given_by m.rowsets) n more) [
+    | inl is ↦ subst (Contains (spelled m)) is (has_file m)
+    | inr rows ↦ has_rows m n (rows_spelled m.rowsets n rows)
+  ]
+]
+
+-- and lie below those that a superblock gives next
+file_low : (next : ℕ) (taken : List ℕ) (f : FileRef) → IsFile next taken f → f.file < next
+file_low next taken f is = ltb-true f.file next (both_true (leb 3 f.file) _ (both_true (leb 3 f.file && ltb f.file next) _ is.0).0).1
+
+files_low : (next : ℕ) (taken : List ℕ) (files : List FileRef) (n : ℕ) → AreFiles next taken files → Contains (files_of files) n → n < next
+files_low next taken [] n are has = absurd (no_number n has)
+files_low next taken (f ∷ files) n are has = elim (first_or f.file (files_of files) n has) [
+  | inl is ↦ subst (λ x. x < next) is (file_low next taken f are.0)
+  | inr more ↦ files_low next (taken ++ f.file ∷ []) files n are.1 more
+]
+
+row_low : (next_rowset next least : ℕ) (taken : List ℕ) (r : MetaRowset) (n : ℕ) → IsRowset next_rowset next least taken r → Contains (given_by r) n → (n < next_rowset) ⊎ (n < next)
+row_low next_rowset next least taken r n is has = elim (first_or r.rowset (r.base.file ∷ (files_of r.undo ++ files_of r.redo)) n has) [
+  | inl own ↦ inl (subst (λ x. x < next_rowset) own (ltb-true r.rowset next_rowset (both_true (leb least r.rowset) _ is.rowset).1))
+  | inr more ↦ elim (first_or r.base.file (files_of r.undo ++ files_of r.redo) n more) [
+    | inl base ↦ inr (subst (λ x. x < next) base (file_low next taken r.base is.base))
+    | inr behind ↦ elim (Contains-append_cases (files_of r.undo) (files_of r.redo) n behind) [
+      | inl undo ↦ inr (files_low next (taken ++ r.base.file ∷ []) r.undo n is.undo undo)
+      | inr redo ↦ inr (files_low next (taken ++ r.base.file ∷ [] ++ files_of r.undo) r.redo n is.redo redo)
+    ]
+  ]
+]
+
+rows_low : (next_rowset next least : ℕ) (taken : List ℕ) (rs : List MetaRowset) (n : ℕ) → AreRowsets next_rowset next least taken rs → Contains (flat_map given_by rs) n → (n < next_rowset) ⊎ (n < next)
+rows_low next_rowset next least taken [] n are has = absurd (no_number n has)
+rows_low next_rowset next least taken (r ∷ rs) n are has = elim (Contains-append_cases (given_by r) (flat_map given_by rs) n has) [
+  | inl own ↦ row_low next_rowset next least taken r n are.0 own
+  | inr behind ↦ rows_low next_rowset next (r.rowset + 1) (taken_by taken r) rs n are.1 behind
+]
+
+given_low : (m : Meta) (n : ℕ) → IsMeta m → Contains (given_in m) n → (n ≤ m.next_rowset) ⊎ (n ≤ m.next_file)
+given_low m n rules has = elim (first_or m.next_rowset (m.next_file ∷ flat_map given_by m.rowsets) n has) [
+  | inl is ↦ inl (omega arith)
+  | inr more ↦ elim (first_or m.next_file (flat_map given_by m.rowsets) n more) [
+    | inl is ↦ inr (omega arith)
+    | inr rows ↦ elim (rows_low m.next_rowset m.next_file 0 [] m.rowsets n rules.rowsets rows) [ inl low ↦ inl (omega arith) | inr low ↦ inr (omega arith) ]
+  ]
+]
+
+-- a superblock that a run made
+made_low : (first_rowset first_file bound : ℕ) (m : Meta) (n : ℕ) → IsMadeNear first_rowset first_file m → first_rowset ≤ bound + 1 → first_file ≤ bound → Contains (given_in m) n → n < bound + 2 ^ 45
+made_low first_rowset first_file bound m n made rowset file has = elim (given_low m n made.rules has) [ inl low ↦ omega (arith, low, made.rowsets) | inr low ↦ omega (arith, low, made.files) ]
+
+-- such a number is one that the slot spells
+given_slot : (files : Files) (n : ℕ) → IsGivenNumber files n → IsSlotNumber files n
+given_slot files n g = record { slot = g.slot; is_slot = g.is_slot; superblock = g.superblock; spells = g.spells; has = given_spelled g.superblock n g.has }
+
+-- files whose slots spell what others do, or the first superblock, have none that is greater
+pub given_up : (columns : List Column) (image c : Files) (bound : ℕ) → 3 ≤ bound → SpellNoOther image (first_meta columns) c → ((k : ℕ) → IsSlotNumber image k → k ≤ bound) → (n : ℕ) → IsGivenNumber c n → n ≤ bound
+given_up columns image c bound three no_other up n g = elim (no_other g.slot g.is_slot g.superblock g.spells) [
+  | inl was ↦ up n (record { slot = g.slot; is_slot = g.is_slot; superblock = g.superblock; spells = was; has = given_spelled g.superblock n g.has })
+  | inr new ↦
+      let has : Contains (1 ∷ 3 ∷ []) n = subst (λ (m : Meta). Contains (given_in m) n) new g.has in
+      elim (first_or 1 (3 ∷ []) n has) [
+        | inl is ↦ omega arith
+        | inr more ↦ elim (first_or 3 [] n more) [ inl is ↦ omega arith | inr none ↦ absurd (no_number n none) ]
+      ]
+]
+
+-- and those of files that a run leaves are near
+given_near : (first_rowset first_file bound : ℕ) (old files : Files) → SpellNear first_rowset first_file old files → first_rowset ≤ bound + 1 → first_file ≤ bound → ((k : ℕ) → IsGivenNumber old k → k ≤ bound) → (n : ℕ) → IsGivenNumber files n → n < bound + 2 ^ 45
+given_near first_rowset first_file bound old files near rowset file low n g = elim (near g.slot g.is_slot g.superblock g.spells) [
+  | inl was ↦ (let le = low n (record { slot = g.slot; is_slot = g.is_slot; superblock = g.superblock; spells = was; has = g.has }) in omega arith)
+  | inr made ↦ made_low first_rowset first_file bound g.superblock n made rowset file g.has
+]
+
+-- the next file number of the superblock that files have
+pub next_given : (files : Files) (m : Meta) → super_of files ≡ Ok (Some m) → IsGivenNumber files m.next_file
+next_given files m is = elim (slots_spell (slot_at 1 (held files 1)) (slot_at 2 (held files 2)) m is) [
+  | inl one ↦ record { slot = 1; is_slot = inl refl; superblock = m; spells = one; has = has_rest m.next_rowset (m.next_file ∷ flat_map given_by m.rowsets) m.next_file (has_first m.next_file (flat_map given_by m.rowsets)) }
+  | inr two ↦ record { slot = 2; is_slot = inr refl; superblock = m; spells = two; has = has_rest m.next_rowset (m.next_file ∷ flat_map given_by m.rowsets) m.next_file (has_first m.next_file (flat_map given_by m.rowsets)) }
+]
+
+-- ---- numbers that are near
 
 -- the same numbers where it has the frames and the other files of one before
-pub frames_near : (logs stores logs' stores' : Files → Type 0) → KeepsFrames logs logs' → ((files : Files) → stores' files → (old : Files) × stores old) → LogIsNear (Both logs stores) (Both logs' stores')
-frames_near logs stores logs' stores' keeps had bound three up image after n is =
+pub frames_near : (columns : List Column) (logs stores logs' stores' : Files → Type 0) → KeepsFrames logs logs' → ((files : Files) → stores' files → (old : Files) × stores old × SpellNoOther old (first_meta columns) files) → NumbersAreNear (Both logs stores) (Both logs' stores')
+frames_near columns logs stores logs' stores' keeps had bound three up image after n is =
     let was = keeps image.log after.0 in
     let store = had image.store after.1 in
     let each : journal.AreUpTo bound logs = λ files left k named. up (record { log = files; store = store.0 }) (left, store.1) k (inl named) in
     let same : records_of image.log ≡ records_of was.0 = ap found_in (same_log (held image.log 1) (held was.0 1) was.2) in
-    let le : n ≤ bound = image_up_to logs bound (omega arith) each image.log was.0 was.1 was.3 (λ k told. each was.0 was.1 k (inl (subst (λ (records : List Entry). Contains (all_numbers records) k) same told))) n is in
-    omega arith
+    elim is [
+      | inl named ↦
+          let le : n ≤ bound = image_up_to logs bound (omega arith) each image.log was.0 was.1 was.3 (λ k told. each was.0 was.1 k (inl (subst (λ (records : List Entry). Contains (all_numbers records) k) same told))) n named in
+          omega (arith, le)
+      | inr given ↦
+          let le : n ≤ bound = given_up columns store.0 image.store bound three store.2 (λ k slot. up (record { log = was.0; store = store.0 }) (was.1, store.1) k (inr slot)) n given in
+          omega (arith, le)
+    ]
 
 -- devices that were let be have no number more
 pub still_near : {L D : Type 0} (tells : Bool) (now : L → ℕ) (leaves : L → ℕ → Files → Type 0) (tells' : Bool) (now' : D → ℕ) (leaves' : D → ℕ → Files → Type 0) (log logged : L) (store stored : D) → logged ≡ log → stored ≡ store
-    → LogIsNear (Both (CrashLeaves tells now leaves log) (CrashLeaves tells' now' leaves' store)) (Both (CrashLeaves tells now leaves logged) (CrashLeaves tells' now' leaves' stored))
+    → NumbersAreNear (Both (CrashLeaves tells now leaves log) (CrashLeaves tells' now' leaves' store)) (Both (CrashLeaves tells now leaves logged) (CrashLeaves tells' now' leaves' stored))
 still_near tells now leaves tells' now' leaves' log logged store stored log_is store_is =
     let before = Both (CrashLeaves tells now leaves log) (CrashLeaves tells' now' leaves' store) in
-    subst (λ l. LogIsNear before (Both (CrashLeaves tells now leaves l) (CrashLeaves tells' now' leaves' stored))) (sym log_is)
-    (subst (λ s. LogIsNear before (Both (CrashLeaves tells now leaves log) (CrashLeaves tells' now' leaves' s))) (sym store_is) itself)
+    subst (λ l. NumbersAreNear before (Both (CrashLeaves tells now leaves l) (CrashLeaves tells' now' leaves' stored))) (sym log_is)
+    (subst (λ s. NumbersAreNear before (Both (CrashLeaves tells now leaves log) (CrashLeaves tells' now' leaves' s))) (sym store_is) itself)
   where
-    itself : LogIsNear (Both (CrashLeaves tells now leaves log) (CrashLeaves tells' now' leaves' store)) (Both (CrashLeaves tells now leaves log) (CrashLeaves tells' now' leaves' store))
-    itself bound three up image is n named = let le = up image is n (inl named) in omega (arith, le)
+    itself : NumbersAreNear (Both (CrashLeaves tells now leaves log) (CrashLeaves tells' now' leaves' store)) (Both (CrashLeaves tells now leaves log) (CrashLeaves tells' now' leaves' store))
+    itself bound three up image is n (inl named) = let le = up image is n (inl named) in omega (arith, le)
+    itself bound three up image is n (inr given) = let le = up image is n (inr (given_slot image.store n given)) in omega (arith, le)
 
 -- ---- the rowset number that is given first
 
@@ -304,9 +426,6 @@ behind_low b (Delta r d ∷ targets) all =
     let here : r ≤ b = (All-head (IsUpTo b) (Delta r d) targets all).0 in
     let more : behind_rowsets targets ≤ b + 1 = behind_low b targets (All-tail (IsUpTo b) (Delta r d) targets all) in
     omega arith
-
-has_next : (m : Meta) → Contains (spelled m) m.next_rowset
-has_next m = has_rest m.number (m.last_mem ∷ m.next_rowset ∷ m.next_file ∷ flat_map numbers_by m.rowsets) m.next_rowset (has_rest m.last_mem (m.next_rowset ∷ m.next_file ∷ flat_map numbers_by m.rowsets) m.next_rowset (has_first m.next_rowset (m.next_file ∷ flat_map numbers_by m.rowsets)))
 
 -- the superblock that opening leaves is that of an image before, or the first one
 pub next_low : {D : Type 0} (now : D → ℕ) (leaves : D → ℕ → Files → Type 0) (columns : List Column) (store : D) (c : Files) (m : Meta) (b : ℕ) → 1 ≤ b → IsOfStore now leaves (first_meta columns) store c → super_of c ≡ Ok (Some m)
@@ -347,3 +466,11 @@ module _ (logs stores logs' stores' : Files → Type 0) (columns : List Column) 
       let wide : journal.AreUpTo (bound + 35184372088831) logs = λ l left' k told. let le = each l left' k told in omega (arith, le) in
       let le : n ≤ bound + 35184372088831 = image_up_to logs (bound + 35184372088831) (omega (arith, three)) wide image.log was.0 was.1 was.2 all n named in
       omega (arith, le)
+
+  -- and so are the numbers of rowsets and files in the store after, where that as opening left it had those of images before
+  pub store_at : (log store : Files) → logs log → stores store → (records : List Entry) → log_of log ≡ Ok records → (opened files : Files) (first_file : ℕ) → SpellNear first first_file opened files → first ≡ next_rowset next records
+      → (bound : ℕ) → AreUpTo bound (Both logs stores) → next ≤ bound → first_file ≤ bound → ((k : ℕ) → IsGivenNumber opened k → k ≤ bound) → (n : ℕ) → IsGivenNumber files n → n < bound + 2 ^ 45
+  store_at log store had stored records reads opened files first_file near first_is bound up next_is file_is opened_low n given =
+      let low : (k : ℕ) → Contains (all_numbers records) k → k ≤ bound = λ k has. up (record { log = log; store = store }) (had, stored) k (inl (inl (subst (λ (rs : List Entry). Contains (all_numbers rs) k) (sym (ap found_in reads)) has))) in
+      let behind : behind_rowsets (named_by records) ≤ bound + 1 = behind_low bound (named_by records) (all_named_low bound records low) in
+      given_near first first_file bound opened files near (omega (arith, first_is, behind, next_is)) file_is opened_low n given

@@ -1,5 +1,5 @@
 -- A run that has ended is what was printed of it, and what a crash leaves.
-use Rattle.std.proofs.Common.{◌≡◌, ℕ, zero, suc, ◌+◌, ◌<◌, ◌≤◌, ◌^◌, max, List, [], ◌∷◌, Option, Some, None, Result, Ok, Bool, true, false, cond, refl, sym, ap, ◌∙◌, subst, arith, length}
+use Rattle.std.proofs.Common.{◌≡◌, ℕ, zero, suc, ◌+◌, ◌<◌, ◌≤◌, ◌^◌, max, List, [], ◌∷◌, Option, Some, None, Result, Ok, Bool, true, false, cond, refl, sym, ap, ◌∙◌, subst, arith, length, inl, inr}
 use Rattle.std.specs.Prelude.{slice_get, All, IsTrue, IfSome, is_some, unwrap_or}
 use Rattle.kt_base.specs.Causes.{Grows}
 use Rattle.std.specs.List.{AllByRecursion}
@@ -38,11 +38,12 @@ use Rattle.kt_tablet.specs.Views.{IsSound, Opens, work_of}
 use Rattle.kt_engine.specs.Logged.{PlanPasses, HoldsRecords}
 use Rattle.kt_engine.specs.Near.{IsUpTo, IsBelow}
 use Rattle.kt_engine.specs.Engines.{EngineView, IsFound, KeepsOthers, IsHome, core_from, LeavesRecords}
-use Rattle.kt_engine.specs.Stored.{RecoversBoth, IsMarkOf, AreMarked, HasFailed}
+use Rattle.kt_engine.specs.Stored.{IsStored, RecoversBoth, IsMarkOf, AreMarked, HasFailed}
+use Rattle.kt_storeside.specs.Sides.{SpellMade}
 use Rattle.kt_engine.specs.Pairs.{AreHome, RecoversAllOfBoth, LeavesPublished}
 use Rattle.kt_loglaws.specs.Fronts.{upto}
 use Rattle.kt_app.specs.Headline.{IsOutput, IsPrinted, IsAnswered, AreAnswered, load_text, shown_from, all_shown, replies_in, end_line, end_of}
-use Rattle.kt_app.specs.Images.{Image, CrashLeaves, Both}
+use Rattle.kt_app.specs.Images.{Image, CrashLeaves, Both, SpellNear}
 use Rattle.kt_app.specs.Crash.{RanBy, KeptBy, HoldsPrefix, HoldsAll, HasSuper}
 use Rattle.kt_app.proofs.Reopening.{has_content}
 use Rattle.kt_app.specs.Session.{on_table}
@@ -431,6 +432,18 @@ module _ {L D C : Type 0} {tells : Bool} {seen : L → Files} {now : L → ℕ} 
   names_more front files left =
       let more = front left.0 home.journal home.log_home files (subst (λ d. leaves d (now d) files) home.log_is left.1) in
       subst (λ (r : Root L D C). (bound : ℕ) → 1 ≤ bound → r.first_rowset ≤ bound + 1 → All (IsUpTo (bound + 1)) r.found → HoldsRecords r.records (IsBelow (bound + 2 ^ 45)) files) root more
+
+  -- what a slot spells it spelled before, or the run has made it
+  pub spells_more : (tells' : Bool) (seen' : D → Files) (now' : D → ℕ) (leaves' : D → ℕ → Files → Type 0) {faults' : D → ℕ} → IsStored tells seen tells' seen' faults' view
+      → (IsTrue tells' → (disk : D) → view.store.home ≡ Some disk → (image : Files) → leaves' disk (now' disk) image → SpellMade seen' view.store image)
+      → (files : Files) → CrashLeaves tells' now' leaves' store files → SpellNear old.first_rowset old.first_file (seen' old.store.first) files
+  spells_more tells' seen' now' leaves' is made files left =
+      let here = made left.0 store home.store_home files left.1 in
+      let own : SpellNear view.first_rowset view.first_file (seen' view.store.first) files = λ slot at m told. elim (here slot at m told) [
+        | inl was ↦ inl was
+        | inr new ↦ inr (record { rules = new.rules; rowsets = omega (arith, new.rowsets, is.near.rowsets); files = omega (arith, new.files, is.files_near) })
+      ] in
+      subst (λ (r : Root L D C). SpellNear r.first_rowset r.first_file (seen' r.first_store) files) root own
 
   pub no_fault_less : faults old.device ≤ faults log
   no_fault_less = subst (λ d. faults old.device ≤ faults d) (sym home.log_is) (subst (λ d. faults d ≤ faults home.journal.disk) device_is (at_home home.journal home.log_home).later)

@@ -15,7 +15,7 @@ ghost use Rattle.kt_engine.specs.Visits.{root_of};
 ghost use Rattle.kt_serve.specs.declared.session.SessionEnd.{SessionEnd};
 ghost use Rattle.kt_seatlock.specs.Passes.{number, given, passes_of, IsVacant, IsPassOf};
 ghost use Rattle.kt_serve.specs.Scans.{IsOn};
-ghost use Rattle.kt_app.specs.Images.{CrashLeaves, Both};
+ghost use Rattle.kt_app.specs.Images.{CrashLeaves, Both, SpellNear};
 ghost use Rattle.kt_app.specs.Session.{IsCounted};
 ghost use Rattle.kt_app.specs.Played.{IsFresh, KeptOn, RanOn, IsWhole, HasPlayed};
 ghost use Rattle.kt_app.specs.Loaded.{IsText};
@@ -209,6 +209,8 @@ pub fn run_plan<
     // name no number that is far above those that opening gave.
     ensures others { IsTrue L.tells → KeepsOthers L.now L.leaves engine.device result.1.log }
     ensures named { (files : Files) → CrashLeaves L.tells L.now L.leaves result.1.log files → (bound : ℕ) → 1 ≤ bound → engine.first_rowset ≤ bound + 1 → All (IsUpTo (bound + 1)) engine.found → HoldsRecords engine.records (IsBelow (bound + 2 ^ 45)) files }
+    // No slot of the store spells a superblock that it did not spell as the run began, and whose numbers are far above those that opening gave.
+    ensures spelled { (files : Files) → CrashLeaves D.tells D.now D.leaves result.1.store files → SpellNear engine.first_rowset engine.first_file (D.seen engine.store.first) files }
 
     // The devices may be opened again.
     ensures openable { IsTrue L.tells → CanOpen L.now L.leaves result.1.log }

@@ -14,7 +14,7 @@ ghost use Rattle.kt_reopen.specs.Both.{Found, Answers};
 ghost use Rattle.kt_storeside.specs.Supers.{NamedStand};
 ghost use Rattle.kt_reopen.specs.Opened.{IsRefusal, OneRose};
 ghost use Rattle.kt_app.specs.Headline.{IsNoScript};
-ghost use Rattle.kt_app.specs.Images.{CrashLeaves, IsRead, Both, KeepsFiles, LeavesAsBefore, LogIsNear};
+ghost use Rattle.kt_app.specs.Images.{CrashLeaves, IsRead, Both, KeepsFiles, LeavesAsBefore, NumbersAreNear, SpellNear};
 ghost use Rattle.kt_app.specs.Refusals.{IsSaid, IsLoadSaid, IsFaultOf, IsRefused, fault_text, refusal_text};
 ghost use Rattle.kt_app.specs.Crash.{Refuses, RunsPlan, RunsScript, LeavesFirst};
 ghost use Rattle.kt_disk.specs.Disk.{Files};
@@ -251,6 +251,7 @@ fn run_and_write<
     ensures kept { KeptOn (Grows (C.readings engine.tablet.clock) (C.readings result.1.clock)) engine schema.now plan.now (Both (CrashLeaves L.tells L.now L.leaves result.1.log) (CrashLeaves D.tells D.now D.leaves result.1.store)) result.1.trail }
     ensures others { IsTrue L.tells → KeepsOthers L.now L.leaves engine.device result.1.log }
     ensures named { (files : Files) → CrashLeaves L.tells L.now L.leaves result.1.log files → (bound : ℕ) → 1 ≤ bound → engine.first_rowset ≤ bound + 1 → All (IsUpTo (bound + 1)) engine.found → HoldsRecords engine.records (IsBelow (bound + 2 ^ 45)) files }
+    ensures spelled { (files : Files) → CrashLeaves D.tells D.now D.leaves result.1.store files → SpellNear engine.first_rowset engine.first_file (D.seen engine.store.first) files }
     ensures openable { IsTrue L.tells → CanOpen L.now L.leaves result.1.log }
     ensures stand { IsTrue D.tells → NamedStand D.seen D.now D.leaves result.1.store }
 {
@@ -328,7 +329,7 @@ fn open_and_run<
     ensures statuses { (result.status ≡ 0) ⊎ (result.status ≡ 3) ⊎ (result.status ≡ 4) ⊎ (result.status ≡ 6) ⊎ (result.status ≡ 7) }
     ensures crash { LeavesFirst (Grows (C.readings clock) (C.readings result.clock)) (Both (IsRead L.tells L.seen log) (IsRead D.tells D.seen store)) (CrashLeaves L.tells L.now L.leaves log) (CrashLeaves L.tells L.now L.leaves result.log) (CrashLeaves D.tells D.now D.leaves store) (CrashLeaves D.tells D.now D.leaves result.store) cells (record { columns = schema.now; plan = plan.now }) }
     ensures others { KeepsFiles (CrashLeaves L.tells L.now L.leaves log) (CrashLeaves L.tells L.now L.leaves result.log) }
-    ensures near { LogIsNear (Both (CrashLeaves L.tells L.now L.leaves log) (CrashLeaves D.tells D.now D.leaves store)) (Both (CrashLeaves L.tells L.now L.leaves result.log) (CrashLeaves D.tells D.now D.leaves result.store)) }
+    ensures near { NumbersAreNear (Both (CrashLeaves L.tells L.now L.leaves log) (CrashLeaves D.tells D.now D.leaves store)) (Both (CrashLeaves L.tells L.now L.leaves result.log) (CrashLeaves D.tells D.now D.leaves result.store)) }
     ensures openable { IsTrue L.tells → CanOpen L.now L.leaves result.log }
     ensures stand { IsTrue D.tells → NamedStand D.seen D.now D.leaves result.store }
 {
@@ -442,7 +443,7 @@ pub fn tablet_main<
     // It leaves all files of the log's device but the log as one before the call might have, and the log names no number far above those that both devices
     // might have had before.
     ensures others { KeepsFiles (CrashLeaves L.tells L.now L.leaves log) (CrashLeaves L.tells L.now L.leaves result.log) }
-    ensures near { LogIsNear (Both (CrashLeaves L.tells L.now L.leaves log) (CrashLeaves D.tells D.now D.leaves store)) (Both (CrashLeaves L.tells L.now L.leaves result.log) (CrashLeaves D.tells D.now D.leaves result.store)) }
+    ensures near { NumbersAreNear (Both (CrashLeaves L.tells L.now L.leaves log) (CrashLeaves D.tells D.now D.leaves store)) (Both (CrashLeaves L.tells L.now L.leaves result.log) (CrashLeaves D.tells D.now D.leaves result.store)) }
 
     // The devices may be opened again, whatever the status.
     ensures openable { IsTrue L.tells → CanOpen L.now L.leaves result.log }

@@ -1,11 +1,12 @@
 use Rattle.std.proofs.Common.{◌≤◌, ℕ, [], arith, ap, sym, refl, subst, inl, inr, true, false, ◌∙◌}
 use Rattle.std.specs.Prelude.{IsTrue, IfSome}
 use Rattle.kt_script.specs.Loads.{IsLoad}
+use Rattle.kt_disk.specs.Disk.{Files}
 use Rattle.kt_history.specs.Machine.{Workload}
 use Rattle.kt_engine.specs.Engines.{KeepsOthers}
-use Rattle.kt_app.specs.Images.{CrashLeaves, Both, KeepsFiles, LogIsNear}
+use Rattle.kt_app.specs.Images.{CrashLeaves, Both, KeepsFiles, IsSlotNumber, IsGivenNumber, NumbersAreNear, SpellNear}
 use Rattle.kt_app.specs.Refusals.{refusal_text}
-use Rattle.kt_app.proofs.Numbers.{keeps_files, frames_files, frames_near, still_near, next_low, near_at}
+use Rattle.kt_app.proofs.Numbers.{keeps_files, frames_files, frames_near, still_near, next_low, given_up, next_given, near_at, store_at}
 use Rattle.kt_app.proofs.SourceLaws.{either}
 use Rattle.kt_app.proofs.RunLaws.{is_on, was_refused, as_before, let_be, runs_over, kept_over, rose_as, neither_rose}
 use Rattle.kt_app.proofs.top.open_and_run.Goals as goal
@@ -128,24 +129,37 @@ returns-in-Ok-open_tablet-clause-near g c =
     let logs = CrashLeaves g.L.Disk.tells g.L.Disk.now g.L.Disk.leaves c.args.log in
     let stores = CrashLeaves g.D.Disk.tells g.D.Disk.now g.D.Disk.leaves c.args.store in
     let files = keeps_files g.L.Disk.tells g.L.Disk.now g.L.Disk.leaves c.args.log _ (subst (λ d. IsTrue g.L.Disk.tells → KeepsOthers g.L.Disk.now g.L.Disk.leaves d parts.log) opened.devices.1 run.others) in
-    let near : LogIsNear (Both logs stores) (Both (CrashLeaves g.L.Disk.tells g.L.Disk.now g.L.Disk.leaves parts.log) (CrashLeaves g.D.Disk.tells g.D.Disk.now g.D.Disk.leaves parts.store)) = λ bound three up image after n named.
-    near_at logs stores (CrashLeaves g.L.Disk.tells g.L.Disk.now g.L.Disk.leaves parts.log) (CrashLeaves g.D.Disk.tells g.D.Disk.now g.D.Disk.leaves parts.store) c.args.schema.now engine.found engine.first_rowset engine.store.meta.next_rowset (g.L.Disk.seen c.args.log) (g.D.Disk.seen c.args.store)
-    (after.0.0, (g.met.L.Disk g.world.𝓛 g.world.𝓜 g.world.𝓡 ((λ s x. x), (λ x. x), (λ x. x), λ x. x)).reads_as_image c.args.log after.0.0)
-    (after.1.0, (g.met.D.Disk g.world.𝓛 g.world.𝓜 g.world.𝓡 ((λ s x. x), (λ x. x), (λ x. x), λ x. x)).reads_as_image c.args.store after.1.0)
-    opened.found.0 (opened.found.2 after.0.0 after.1.0) engine.records (opened.records after.0.0) (sym opened.found.1.records) (opened.names ∙ opened.found.1.names) files image after.0 (run.named image.log after.0) (opened.first_rowset ∙ opened.next.0) bound three up
-    (next_low g.D.Disk.now g.D.Disk.leaves c.args.schema.now c.args.store (g.D.Disk.seen engine.store.known) engine.store.meta bound (omega (arith, three))
-    (let moment = opened.store_moment after.1.0 in moment.each (g.D.Disk.now engine.store.known) (g.D.Disk.seen engine.store.known) moment.later (omega arith) ((g.met.D.Disk g.world.𝓛 g.world.𝓜 g.world.𝓡 ((λ s x. x), (λ x. x), (λ x. x), λ x. x)).reads_as_image engine.store.known after.1.0))
-    (opened.meta after.1.0)
-    (λ files was k is. up (record { log = g.L.Disk.seen c.args.log; store = files }) ((after.0.0, (g.met.L.Disk g.world.𝓛 g.world.𝓜 g.world.𝓡 ((λ s x. x), (λ x. x), (λ x. x), λ x. x)).reads_as_image c.args.log after.0.0), (after.1.0, was)) k (inr is))) n named in
-    subst (λ l. LogIsNear (Both logs stores) (Both (CrashLeaves g.L.Disk.tells g.L.Disk.now g.L.Disk.leaves l) (CrashLeaves g.D.Disk.tells g.D.Disk.now g.D.Disk.leaves c.end_with-in-Ok-open_tablet.result.store))) (sym is.1)
-    (subst (λ s. LogIsNear (Both logs stores) (Both (CrashLeaves g.L.Disk.tells g.L.Disk.now g.L.Disk.leaves parts.log) (CrashLeaves g.D.Disk.tells g.D.Disk.now g.D.Disk.leaves s))) (sym is.2) near)
+    let near : NumbersAreNear (Both logs stores) (Both (CrashLeaves g.L.Disk.tells g.L.Disk.now g.L.Disk.leaves parts.log) (CrashLeaves g.D.Disk.tells g.D.Disk.now g.D.Disk.leaves parts.store)) = λ bound three up image after n numbered.
+    let known = g.D.Disk.seen engine.store.known in
+    let slots = λ (files : Files) (was : g.D.Disk.leaves c.args.store (g.D.Disk.now c.args.store) files) (k : ℕ) (is : IsSlotNumber files k). up (record { log = g.L.Disk.seen c.args.log; store = files }) ((after.0.0, (g.met.L.Disk g.world.𝓛 g.world.𝓜 g.world.𝓡 ((λ s x. x), (λ x. x), (λ x. x), λ x. x)).reads_as_image c.args.log after.0.0), (after.1.0, was)) k (inr is) in
+    let from = (let moment = opened.store_moment after.1.0 in moment.each (g.D.Disk.now engine.store.known) known moment.later (omega arith) ((g.met.D.Disk g.world.𝓛 g.world.𝓜 g.world.𝓡 ((λ s x. x), (λ x. x), (λ x. x), λ x. x)).reads_as_image engine.store.known after.1.0)) in
+    let low : engine.store.meta.next_rowset ≤ bound = next_low g.D.Disk.now g.D.Disk.leaves c.args.schema.now c.args.store known engine.store.meta bound (omega (arith, three)) from (opened.meta after.1.0) slots in
+    let given : (k : ℕ) → IsGivenNumber known k → k ≤ bound = given_up c.args.schema.now from.image known bound three from.slots (slots from.image from.was_left) in
+    let file : engine.first_file ≤ bound = (let le = given engine.store.meta.next_file (next_given known engine.store.meta (opened.meta after.1.0)) in let e = opened.first_file ∙ opened.next.1 in omega (arith, le, e)) in
+    elim numbered [
+      | inl named ↦
+          near_at logs stores (CrashLeaves g.L.Disk.tells g.L.Disk.now g.L.Disk.leaves parts.log) (CrashLeaves g.D.Disk.tells g.D.Disk.now g.D.Disk.leaves parts.store) c.args.schema.now engine.found engine.first_rowset engine.store.meta.next_rowset (g.L.Disk.seen c.args.log) (g.D.Disk.seen c.args.store)
+          (after.0.0, (g.met.L.Disk g.world.𝓛 g.world.𝓜 g.world.𝓡 ((λ s x. x), (λ x. x), (λ x. x), λ x. x)).reads_as_image c.args.log after.0.0) (after.1.0, (g.met.D.Disk g.world.𝓛 g.world.𝓜 g.world.𝓡 ((λ s x. x), (λ x. x), (λ x. x), λ x. x)).reads_as_image c.args.store after.1.0)
+          opened.found.0 (opened.found.2 after.0.0 after.1.0) engine.records (opened.records after.0.0) (sym opened.found.1.records) (opened.names ∙ opened.found.1.names) files image after.0 (run.named image.log after.0) (opened.first_rowset ∙ opened.next.0) bound three up low n named
+      | inr numbers ↦
+          store_at logs stores (CrashLeaves g.L.Disk.tells g.L.Disk.now g.L.Disk.leaves parts.log) (CrashLeaves g.D.Disk.tells g.D.Disk.now g.D.Disk.leaves parts.store) c.args.schema.now engine.found engine.first_rowset engine.store.meta.next_rowset (g.L.Disk.seen c.args.log) (g.D.Disk.seen c.args.store)
+          (after.0.0, (g.met.L.Disk g.world.𝓛 g.world.𝓜 g.world.𝓡 ((λ s x. x), (λ x. x), (λ x. x), λ x. x)).reads_as_image c.args.log after.0.0) (after.1.0, (g.met.D.Disk g.world.𝓛 g.world.𝓜 g.world.𝓡 ((λ s x. x), (λ x. x), (λ x. x), λ x. x)).reads_as_image c.args.store after.1.0)
+          engine.records (opened.records after.0.0) known image.store engine.first_file
+          (subst (λ d. SpellNear engine.first_rowset engine.first_file (g.D.Disk.seen d) image.store) opened.first_store (run.spelled image.store after.1)) (opened.first_rowset ∙ opened.next.0) bound up low file given n numbers
+    ] in
+    subst (λ l. NumbersAreNear (Both logs stores) (Both (CrashLeaves g.L.Disk.tells g.L.Disk.now g.L.Disk.leaves l) (CrashLeaves g.D.Disk.tells g.D.Disk.now g.D.Disk.leaves c.end_with-in-Ok-open_tablet.result.store))) (sym is.1)
+    (subst (λ s. NumbersAreNear (Both logs stores) (Both (CrashLeaves g.L.Disk.tells g.L.Disk.now g.L.Disk.leaves parts.log) (CrashLeaves g.D.Disk.tells g.D.Disk.now g.D.Disk.leaves s))) (sym is.2) near)
 
 pub returns-in-Err-clause-near : goal.returns-in-Err-clause-near
 returns-in-Err-clause-near g c =
     let is = c.end_with-in-Err.ensures in
     let closed = c.in-Err.closed in
     let kept = as_before g.L.Disk.tells g.L.Disk.now g.L.Disk.leaves g.D.Disk.tells g.D.Disk.now g.D.Disk.leaves c.args.schema.now c.args.log c.args.store closed.log _ closed.store _ c.in-Err.ensures.log_moment_err c.in-Err.ensures.store_moment_err c.in-Err.ensures.any_moment is.1 is.2 in
-    frames_near _ _ _ _ kept.frames (λ files left. let was = kept.superblock files left in (was.0, was.1))
+    frames_near c.args.schema.now _ _ _ _ kept.frames (λ files left.
+    let here = subst (λ s. CrashLeaves g.D.Disk.tells g.D.Disk.now g.D.Disk.leaves s files) is.2 left in
+    let moment = c.in-Err.ensures.store_moment_err here.0 in
+    let was = moment.each (g.D.Disk.now closed.store) files moment.later (omega arith) here.1 in
+    (was.image, (here.0, was.was_left), was.slots))
 
 pub returns-in_default-clause-near : goal.returns-in_default-clause-near
 returns-in_default-clause-near g c = let is = c.end_with.ensures in still_near g.L.Disk.tells g.L.Disk.now g.L.Disk.leaves g.D.Disk.tells g.D.Disk.now g.D.Disk.leaves c.args.log _ c.args.store _ is.1 is.2
