@@ -205,7 +205,8 @@ def late_changes_go_into_several_outputs(room):
     lines = ["session", "compact"]
     for of in range(4):
         mine = [f'"{it:05}"' for it in (*range(of, 65_000, 2_600), *range(65_600 + of, 66_000, 80))]
-        lines += ["session", *(f"update {it} n=7" for it in mine), *(f"delete {it}" for it in mine[::2]), *(f"insert {it} 8" for it in mine[::4])]
+        # A read before the writes, in which the compaction begins.
+        lines += ["session", "scan at 4096 where n>1", *(f"update {it} n=7" for it in mine), *(f"delete {it}" for it in mine[::2]), *(f"insert {it} 8" for it in mine[::4])]
     machine, output = plays(room, PAIRS.head.removesuffix("session\n") + "".join(f"{it}\n" for it in lines), machine, 2)
     named = all_named(held(room, "DATA"), PAIRS.columns)
     if [it[0] for it in named] != [3, 4] or any(len(redos) > 2 for _, _, _, redos in named):

@@ -91,8 +91,8 @@ class Script:
         wanted = re.search(r" select ([^ ]+)", line)
         names = wanted[1].split(",") if wanted else [it.name for it in self.columns]
         tests = re.search(r" where (.*)", line)
-        kept = [row for _, row in sorted(rows.items(), key=lambda it: tuple(map(value_of, it[0]))) if passes(tests[1] if tests else "", row)]
-        return [" ".join(row[it] for it in names) for row in kept]
+        kept = [it for it in rows.items() if passes(tests[1] if tests else "", it[1])]
+        return [" ".join(row[it] for it in names) for _, row in sorted(kept, key=lambda it: tuple(map(value_of, it[0])))]
 
 
 def joined(words):
