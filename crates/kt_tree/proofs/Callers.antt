@@ -1,12 +1,14 @@
 -- What callers of a tree know of it when they change other places of its pool.
-use Rattle.std.proofs.Common.{◌≡◌, ℕ, List, Some, ap, arith}
+use Rattle.std.proofs.Common.{◌≡◌, ℕ, List, Some, sym, ap, arith}
 use Rattle.kt_pool.specs.Contents.{Contents, Stands, at_cell}
 use Rattle.kt_tree.specs.Shapes.{leaf, count, flat, key_cells, IsTreeAt, nothing}
-use Rattle.kt_tree.specs.Trees.{IsTree, shape_of, entries, key_places, place_of, Owns}
+use Rattle.kt_tree.specs.Trees.{IsTree, shape_of, entries, key_places, place_of, Owns, IsSeat}
+use Rattle.kt_tree.specs.declared.seat.Seat.{Seat}
 use Rattle.kt_tree.specs.declared.tree.Tree.{Tree}
 use Rattle.kt_tree.proofs.Keys.{place_stands}
 use Rattle.kt_tree.proofs.Shapes.{kept, spelled_is}
 use Rattle.kt_tree.proofs.Trees.{tree_is, owned_stands}
+use Rattle.kt_tree.proofs.Ways.{seat_form}
 
 -- a tree of no node, in any pool
 pub bare_tree : (tree : Tree) (pool : Contents) → tree.root ≡ nothing → tree.count ≡ 0 → IsTree tree pool
@@ -38,6 +40,10 @@ module _ (tree : Tree) (old new : Contents) (t : IsTree tree old) (same : (k : �
 
   pub still_places : key_places tree new ≡ key_places tree old
   still_places = ap key_cells (spelled_is new tree.root (shape_of tree old) form_new)
+
+  -- a seat is still that of its key
+  pub still_seat : (key : List ℕ) (seat : Seat) → IsSeat tree old key seat → IsSeat tree new key seat
+  still_seat key seat h = seat_form (shape_of tree old) (shape_of tree new) key seat (sym (spelled_is new tree.root (shape_of tree old) form_new)) h
 
   pub still_owns : (k : ℕ) → Owns tree new k → Owns tree old k
   still_owns k o = let e = ap (λ s. count s k) (spelled_is new tree.root (shape_of tree old) form_new) in omega arith

@@ -8,6 +8,7 @@ pub mod Joining
 pub mod Overwriting
 pub mod Hanging
 pub mod Spots
+pub mod Ways
 pub mod Clearing
 pub mod Trees
 pub mod Walks

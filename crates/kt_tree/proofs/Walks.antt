@@ -1,16 +1,20 @@
 -- A walk down a tree.
-use Rattle.std.proofs.Common.{◌≡◌, ◌≢◌, ℕ, Bool, true, false, List, [], ◌∷◌, ◌++◌, refl, sym, ap, ◌∙◌, arith, subst, Some, None, Option}
+use Rattle.std.proofs.Common.{◌≡◌, ◌≢◌, ℕ, suc, ◌+◌, ◌<◌, ◌%◌, Bool, true, false, cond, length, List, [], ◌∷◌, ◌++◌, refl, sym, ap, ◌∙◌, arith, subst, Some, None, Option}
 use Rattle.std.specs.List.{find}
 use Rattle.std.specs.Option.{option_map}
-use Rattle.std.specs.Ordering.{is_gt}
+use Rattle.std.specs.Ordering.{is_gt, is_lt}
+use Rattle.std.specs.Prelude.{slice_index}
 use Rattle.std.specs.declared.cmp.Ordering.{Ordering}
 use Rattle.std.specs.declared.cmp.Ordering.TheVariants.{Less, Equal, Greater}
 use Rattle.std.proofs.lemmas.Bool.{false≢true}
 use Rattle.kt_pool.specs.Contents.{Contents, at_cell, bytes_at}
 use Rattle.kt_tree.specs.Entries.{Entry, order, AreBelow, IsRising, is_at, value_of, is_past, is_after}
 use Rattle.kt_tree.specs.Shapes.{nothing, node_of, Shape, leaf, node, root_of, flat, key_cells, count, IsTreeAt}
+use Rattle.kt_tree.specs.Spots.{below}
 use Rattle.kt_tree.specs.Trees.{IsTree, entries, place_at, shape_of}
-use Rattle.kt_tree.specs.Walks.{Seeks, SeeksAfter, or_else}
+use Rattle.kt_tree.specs.Walks.{Seeks, SeeksOn, SeeksAfter, or_else}
+use Rattle.kt_tree.specs.Ways.{down, IsNoted}
+use Rattle.kt_tree.specs.declared.seat.Way.{Way}
 use Rattle.kt_tree.specs.declared.node.Node.{Node}
 use Rattle.kt_tree.specs.declared.tree.Tree.{Tree}
 use Rattle.kt_tree.specs.declared.tree.Pair.{Pair}
@@ -18,6 +22,8 @@ use Rattle.kt_tree.proofs.Orders.{below_weaker, below_same, rising_right, rising
 use Rattle.kt_tree.proofs.Keys.{same_keys, rising_by, found_of, value_found, found_behind, tie}
 use Rattle.kt_tree.proofs.Places.{one_same}
 use Rattle.kt_tree.proofs.Shapes.{key_is}
+use Rattle.kt_tree.proofs.Spots.{below_is}
+use Rattle.kt_tree.proofs.Ways.{noted_more, noted_none, stands_down, way_short, below_turn}
 use Rattle.kt_tree.proofs.Joining.{node_says, node_order, tree_right, tree_left, find_right, find_lefts, find_here}
 
 module _ (tree : Tree) (pool : Contents) (cell : ℕ) (key : List ℕ) (n : Node) (read : n ≡ node_of (bytes_at pool cell)) (ne : cell ≢ nothing) where
@@ -54,6 +60,39 @@ module _ (tree : Tree) (pool : Contents) (cell : ℕ) (key : List ℕ) (n : Node
 
   pub found_here : order (bytes_at pool n.key) key ≡ Equal → Seeks tree pool cell key → Some (place_at n.value) ≡ option_map place_at (value_of key (entries tree pool))
   found_here o h = found_by o h.form h.stands h.rising h.same
+
+-- ---- the same, and the way to it
+
+module _ (tree : Tree) (pool : Contents) (cell : ℕ) (key : List ℕ) (n : Node) (read : n ≡ node_of (bytes_at pool cell)) (ne : cell ≢ nothing) (t : IsTree tree pool) (old new : Way) (h : SeeksOn tree pool cell key old)
+    (more : new.steps ≡ old.steps + 1) (here : slice_index new.cells (old.steps % 8) ≡ cell) (others : (i : ℕ) → i ≢ old.steps % 8 → slice_index new.cells i ≡ slice_index old.cells i) where
+  pub noted_on : IsNoted (shape_of tree pool) key new
+  noted_on = noted_more (shape_of tree pool) key old new cell h.noted more here others h.here ne
+
+  gone_down : (side : Bool) → is_lt (order (bytes_at pool n.key) key) ≡ side → cond side n.right n.left ≡ root_of (down key new.steps (shape_of tree pool))
+  gone_down side e =
+      let s = shape_of tree pool in
+      let next : suc old.steps ≡ new.steps = omega (arith, more) in
+      sym (below_is pool key cell n side read (sym e)) ∙ ap (below pool key) h.here
+      ∙ below_turn pool key (down key old.steps s) (stands_down pool key tree.root s t.stands old.steps) (λ e. ne (h.here ∙ e))
+      ∙ ap (λ (j : ℕ). root_of (down key j s)) next
+
+  pub on_right : order (bytes_at pool n.key) key ≡ Less → SeeksOn tree pool n.right key new
+  on_right o = record { seeks = seeks_right tree pool cell key n read ne o h.seeks; here = gone_down true (ap is_lt o); noted = noted_on }
+
+  pub on_left : order (bytes_at pool n.key) key ≡ Greater → SeeksOn tree pool n.left key new
+  on_left o = record { seeks = seeks_left tree pool cell key n read ne o h.seeks; here = gone_down false (ap is_lt o); noted = noted_on }
+
+-- the way has fewer steps than the pool has cells
+pub on_short : (tree : Tree) (pool : Contents) (cell : ℕ) (key : List ℕ) (way : Way) → cell ≢ nothing → IsTree tree pool → SeeksOn tree pool cell key way → way.steps < length pool.places
+on_short tree pool cell key way ne t h = way_short pool key tree.root (shape_of tree pool) t.stands way.steps (λ e. ne (h.here ∙ e))
+
+-- at first the way has no step
+pub on_first : (tree : Tree) (pool : Contents) (key : List ℕ) (way : Way) → way.steps ≡ 0 → IsTree tree pool → SeeksOn tree pool tree.root key way
+on_first tree pool key way e t = record {
+  seeks = record { form = shape_of tree pool; stands = t.stands; rising = t.rising; same = refl };
+  here = t.stands.root ∙ ap (λ (j : ℕ). root_of (down key j (shape_of tree pool))) (sym e);
+  noted = noted_none (shape_of tree pool) key way e;
+}
 
 -- ---- the first key after another
 

@@ -6,3 +6,4 @@ pub mod Walks
 pub mod InOrder
 pub mod Changes
 pub mod Spots
+pub mod Ways

@@ -4,6 +4,8 @@ use Rattle.kt_pool.specs.Contents.{Contents, cells_for, at_cell}
 use Rattle.kt_pool.specs.declared.place.Place.{Place}
 use Rattle.kt_tree.specs.Entries.{Entry, IsRising, value_of}
 use Rattle.kt_tree.specs.Shapes.{Shape, shape_at, flat, key_cells, count, IsTreeAt}
+use Rattle.kt_tree.specs.Ways.{IsSeatAt}
+use Rattle.kt_tree.specs.declared.seat.Seat.{Seat}
 use Rattle.kt_tree.specs.declared.tree.Pair.{Pair}
 use Rattle.kt_tree.specs.declared.tree.Tree.{Tree}
 
@@ -55,6 +57,10 @@ pub record IsNewlyPlaced (pool : Contents) (place : Option ℕ) : Type 0 where
   pub cell : ℕ
   pub is : place ≡ Some cell
   pub vacant : at_cell pool cell ≡ None
+
+-- the seat is that of this key in the tree as it is
+abbrev pub IsSeat : Tree → Contents → List ℕ → Seat → Type 0
+IsSeat tree pool key seat = IsSeatAt (shape_of tree pool) key seat
 
 -- the cells that a new key takes: one for its node, and its own
 abbrev pub need : List ℕ → ℕ

@@ -3,10 +3,12 @@
 //! their values, and a call changes no place but the tree's own. It stands on the pool.
 #![tactic(auto)]
 
+pub use seat::Seat;
 pub use tree::{Pair, Tree};
 pub use walk::Walk;
 
 pub mod change;
 pub mod node;
+pub mod seat;
 pub mod tree;
 pub mod walk;

@@ -133,14 +133,14 @@ pub fn head_of(key: &[u8]) -> Head
     }
 }
 
-/// The order of a node's key and another. The keys themselves are compared only where they begin alike.
-pub fn order(pool: &Pool, node: &Node, key: &[u8]) -> Ordering
+/// The order of a node's key and another, told how that begins. The keys themselves are compared only where they begin alike.
+pub fn order(pool: &Pool, node: &Node, key: &[u8], head: Head) -> Ordering
     requires stands { Stands pool.now node.now.key }
     requires head { node.now.head ≡ head_of (bytes_at pool.now node.now.key) }
     requires bytes { AreBytes (bytes_at pool.now node.now.key) }
+    requires sought { head ≡ head_of key.now }
     ensures { result ≡ order (bytes_at pool.now node.now.key) key.now }
 {
-    let head = head_of(key);
     if node.head.high != head.high {
         return node.head.high.cmp(&head.high);
     }

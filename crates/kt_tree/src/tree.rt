@@ -7,10 +7,11 @@ ghost use Rattle.kt_tree.specs.Entries.{Entry, value_of, is_past, next, put};
 ghost use Rattle.kt_tree.specs.Shapes.{head_of, AreBytes};
 ghost use Rattle.kt_tree.specs.InOrder.{IsWalk, to_come};
 ghost use Rattle.kt_tree.specs.Takes.{Takes};
-ghost use Rattle.kt_tree.specs.Trees.{IsTree, IsPairOf, IsNewlyPlaced, entries, place_of, Owns, need, place_at};
+ghost use Rattle.kt_tree.specs.Trees.{IsTree, IsPairOf, IsNewlyPlaced, IsSeat, entries, place_of, Owns, need, place_at};
 
 use crate::change::{give_back, hang, overwrite};
-use crate::node::{NOTHING, Node, head_of, node_in, order, place};
+use crate::node::{Head, NOTHING, Node, head_of, node_in, order, place};
+use crate::seat::{Seat, Way};
 use crate::walk::Walk;
 use kt_pool::{Place, Pool};
 use std::alloc::Global;
@@ -23,15 +24,26 @@ pub struct Pair {
     pub value: Place,
 }
 
-/// Whether a node's key is above this one, if there is one.
-fn is_past(pool: &Pool, node: &Node, key: Option<&[u8]>) -> bool
+// How a key begins, if there is one.
+fn head_if(key: Option<&[u8]>) -> Head
+    ensures { IfSome (option_copied key.entry) (λ key. result ≡ head_of key) }
+{
+    match key {
+        Some(key) => head_of(key),
+        None => Head { high: 0, low: 0 },
+    }
+}
+
+/// Whether a node's key is above this one, if there is one, told how this one begins.
+fn is_past(pool: &Pool, node: &Node, key: Option<&[u8]>, head: Head) -> bool
     requires stands { Stands pool.now node.now.key }
     requires head { node.now.head ≡ head_of (bytes_at pool.now node.now.key) }
     requires bytes { AreBytes (bytes_at pool.now node.now.key) }
+    requires sought { IfSome (option_copied key) (λ key. head ≡ head_of key) }
     ensures { result ≡ is_past (option_copied key.entry) (bytes_at pool.now node.now.key) }
 {
     match key {
-        Some(key) => order(pool, node, key).is_gt(),
+        Some(key) => order(pool, node, key, head).is_gt(),
         None => true,
     }
 }
@@ -80,16 +92,19 @@ impl Tree {
         ensures grows { (k : ℕ) → Owns self.new pool.new k → Owns self.old pool.old k ⊎ (at_cell pool.old k ≡ None) }
         ensures frame { (k : ℕ) → ¬ Owns self.new pool.new k → at_cell pool.new k ≡ at_cell pool.old k }
     {
-        if let Some(old) = overwrite(pool, self.root, key, value.cell) {
+        if let Some(old) = overwrite(pool, self.root, key, head_of(key), value.cell) {
             return Some(Place { cell: old });
         }
-        self.insert_new(pool, key, value);
+        let seat = self.seek(pool, key);
+        self.insert_at(pool, &seat, key, value);
         None
     }
 
-    /// Sets the place of a key's value where the key is not there, in reserved cells: one for the node and those of the key.
-    pub fn insert_new(&mut self, pool: &mut Pool, key: &[u8], value: Place)
+    /// Sets the place of a key's value at the seat of the key, which is not there, in reserved cells: one for the node and
+    /// those of the key.
+    pub fn insert_at(&mut self, pool: &mut Pool, seat: &Seat, key: &[u8], value: Place)
         requires tree { IsTree self.old pool.old }
+        requires seat { IsSeat self.old pool.old key.now seat.now }
         requires absent { value_of key.now (entries self.old pool.old) ≡ None }
         requires reserved { need key.now ≤ pool.old.reserved }
         ensures tree { IsTree self.new pool.new }
@@ -104,8 +119,8 @@ impl Tree {
         ensures frame { (k : ℕ) → ¬ Owns self.new pool.new k → at_cell pool.new k ≡ at_cell pool.old k }
     {
         let at = pool.place(key);
-        let fresh = place(pool, at.cell, value.cell, head_of(key));
-        self.root = hang(pool, self.root, fresh, key);
+        let fresh = place(pool, at.cell, value.cell, seat.head);
+        self.root = hang(pool, self.root, fresh, key, seat);
         prove!(self.count < pool.size());
         self.count += 1;
     }
@@ -115,10 +130,11 @@ impl Tree {
         requires { IsTree self.now pool.now }
         ensures { result ≡ option_map place_at (value_of key.now (entries self.now pool.now)) }
     {
+        let head = head_of(key);
         let mut cell = self.root;
         while cell != NOTHING {
             let node = node_in(pool, cell);
-            match order(pool, &node, key) {
+            match order(pool, &node, key, head) {
                 Ordering::Less => cell = node.right,
                 Ordering::Greater => cell = node.left,
                 Ordering::Equal => return Some(Place { cell: node.value }),
@@ -127,17 +143,47 @@ impl Tree {
         None
     }
 
+    /// Where the value of this key is placed, if it is there, and where the key belongs.
+    pub fn seek(&self, pool: &Pool, key: &[u8]) -> Seat
+        requires { IsTree self.now pool.now }
+        ensures value { result.value ≡ option_map place_at (value_of key.now (entries self.now pool.now)) }
+        ensures seat { IsSeat self.now pool.now key.now result }
+    {
+        let head = head_of(key);
+        let mut way = Way::new();
+        let mut cell = self.root;
+        while cell != NOTHING {
+            let node = node_in(pool, cell);
+            prove!(way.steps < pool.size());
+            way.note(cell);
+            match order(pool, &node, key, head) {
+                Ordering::Less => cell = node.right,
+                Ordering::Greater => cell = node.left,
+                Ordering::Equal => {
+                    let value = Some(Place { cell: node.value });
+                    return Seat { value, head, way };
+                }
+            }
+        }
+        Seat {
+            value: None,
+            head,
+            way,
+        }
+    }
+
     /// The least key above this one, or the least of all, and its value.
     pub fn after(&self, pool: &Pool, key: Option<&[u8]>) -> Option<Pair>
         requires { IsTree self.now pool.now }
         ensures pair { IsPairOf self.now pool.now result (next (option_copied key.entry) (entries self.now pool.now)) }
         ensures stands { IfSome result (λ pair. Stands pool.now pair.key.cell) }
     {
+        let head = head_if(key);
         let mut best = None;
         let mut cell = self.root;
         while cell != NOTHING {
             let node = node_in(pool, cell);
-            if is_past(pool, &node, key) {
+            if is_past(pool, &node, key, head) {
                 best = Some(Pair {
                     key: Place { cell: node.key },
                     value: Place { cell: node.value },

@@ -7,15 +7,15 @@ pub overwrite-requires : goal.overwrite-requires
 overwrite-requires t c =
     let h = c.decreases in
     let ne : c.args.root ≢ nothing = omega arith in
-    let fewer = tree_right_fewer c.args.pool.now c.args.root c.args.key.now c.args.value c.node_in-node.result c.node_in-node.ensures ne c.requires.0 c.requires.1 in
-    (omega (arith, h, fewer), tree_right_there c.args.pool.now c.args.root c.args.key.now c.args.value c.node_in-node.result c.node_in-node.ensures ne c.requires.0 c.requires.1)
+    let fewer = tree_right_fewer c.args.pool.now c.args.root c.args.key.now c.args.value c.node_in-node.result c.node_in-node.ensures ne c.requires.there.0 c.requires.there.1 in
+    (omega (arith, h, fewer), (tree_right_there c.args.pool.now c.args.root c.args.key.now c.args.value c.node_in-node.result c.node_in-node.ensures ne c.requires.there.0 c.requires.there.1, c.requires.sought))
 
 pub overwrite-requires-in-Greater : goal.overwrite-requires-in-Greater
 overwrite-requires-in-Greater t c =
     let h = c.decreases in
     let ne : c.args.root ≢ nothing = omega arith in
-    let fewer = tree_left_fewer c.args.pool.now c.args.root c.args.key.now c.args.value c.node_in-node.result c.node_in-node.ensures ne c.requires.0 c.requires.1 in
-    (omega (arith, h, fewer), tree_left_there c.args.pool.now c.args.root c.args.key.now c.args.value c.node_in-node.result c.node_in-node.ensures ne c.requires.0 c.requires.1)
+    let fewer = tree_left_fewer c.args.pool.now c.args.root c.args.key.now c.args.value c.node_in-node.result c.node_in-node.ensures ne c.requires.there.0 c.requires.there.1 in
+    (omega (arith, h, fewer), (tree_left_there c.args.pool.now c.args.root c.args.key.now c.args.value c.node_in-node.result c.node_in-node.ensures ne c.requires.there.0 c.requires.there.1, c.requires.sought))
 
 pub returns-in-Less : goal.returns-in-Less
 returns-in-Less t c =

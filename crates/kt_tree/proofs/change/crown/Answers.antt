@@ -7,7 +7,7 @@ returns-then-cell-eq-NOTHING c = hung_alone c.args.pool.now c.args.cell c.args.f
 
 pub write-requires-clause-long : goal.write-requires-clause-long
 write-requires-clause-long c =
-    let r = c.requires in
+    let r = c.requires.beside in
     fresh_still c.args.pool.now c.args.cell c.args.fresh c.args.key.now r.0 r.1 r.2 r.3 c.split-halves.new.pool c.split-halves.result.low c.split-halves.result.high (c.split-halves.ensures r.0 r.3.lacks)
 
 pub returns : goal.returns

@@ -8,7 +8,7 @@ use Rattle.kt_tree.proofs.change.spot_of.Goals as goal
 pub down-init : goal.down-init
 down-init c = record {
   leads = leads_none c.args.pool.now c.args.key.now c.args.root c.whole-spot.result.above c.whole-spot.result.cell c.whole-spot.result.node c.whole-spot.result.right c.whole-spot.ensures.cell c.whole-spot.ensures.above;
-  lacks = (c.requires.0, subst (λ (x : ℕ). Lacks c.args.pool.now x c.args.key.now c.requires.0) (sym c.whole-spot.ensures.cell) c.requires.1);
+  lacks = (c.requires.lacks.0, subst (λ (x : ℕ). Lacks c.args.pool.now x c.args.key.now c.requires.lacks.0) (sym c.whole-spot.ensures.cell) c.requires.lacks.1);
 }
 
 pub step-spot-requires-clause-lacks : goal.step-spot-requires-clause-lacks
