@@ -31,3 +31,13 @@ commit_row row = outcome row.outcome ∷ length row.targets ∷ flat_map target 
 abbrev pub spelling : Entry → List ℕ
 spelling (Replicate ts ops) = 1 ∷ (to_le_bytes w64 ts ++ to_le_bytes w16 (length ops) ++ flat_map operation ops)
 spelling (Commit ts rows) = 2 ∷ (to_le_bytes w64 ts ++ to_le_bytes w16 (length rows) ++ flat_map commit_row rows)
+
+-- which record it is, its timestamp, and how much it lists
+abbrev pub head : Entry → List ℕ
+head (Replicate ts ops) = 1 ∷ (to_le_bytes w64 ts ++ to_le_bytes w16 (length ops))
+head (Commit ts rows) = 2 ∷ (to_le_bytes w64 ts ++ to_le_bytes w16 (length rows))
+
+-- and what it lists
+abbrev pub listed : Entry → List ℕ
+listed (Replicate ts ops) = flat_map operation ops
+listed (Commit ts rows) = flat_map commit_row rows

@@ -19,4 +19,4 @@ pub use entry::{CommitRow, CommitRows, Entry, RecordList, TargetList};
 pub use kt_bytes::CodecNo;
 pub use log_records::{LogRecords, OpsRef, RecordRef};
 pub use reading::read_record;
-pub use writing::{put_entry, spell};
+pub use writing::{put_entry_behind, spell};

@@ -2,7 +2,7 @@
 ghost use Rattle.std.specs.Prelude.{◌≡◌, ◌<◌, ◌^◌, ◌++◌, ◌∷◌, [], length, OnOk, OnErr};
 ghost use Rattle.std.specs.List.{flat_map};
 ghost use Rattle.std.specs.Int.{w16, w64, to_le_bytes};
-ghost use Rattle.kt_records.specs.Spelling.{outcome as outcome_number, target as target_bytes, commit_row, spelling};
+ghost use Rattle.kt_records.specs.Spelling.{outcome as outcome_number, target as target_bytes, commit_row, head, listed, spelling};
 ghost use Rattle.kt_records.specs.Rules.{EachAfter, RowFits, KeepsRules};
 
 use crate::entry::{CommitRow, Entry};
@@ -73,32 +73,60 @@ fn put_rows(out: &mut Tail, rows: &[CommitRow]) -> Result<(), NoMemory>
 }
 
 // Which record it is, its timestamp, and how much it lists.
-fn put_head(out: &mut Tail, record1: u8, ts: u64, count: u16) -> Result<(), NoMemory>
-    ensures front { out.new.front ≡ out.old.front }
-    ensures ok { OnOk result (out.new.added ≡ out.old.added ++ record1 ∷ (to_le_bytes w64 ts ++ to_le_bytes w16 count)) }
+fn numbered(record1: u8, ts: u64, count: u16) -> [u8; 11]
+    ensures { result ≡ record1 ∷ (to_le_bytes w64 ts ++ to_le_bytes w16 count) }
 {
-    out.push(record1)?;
-    out.extend(&ts.to_le_bytes())?;
-    out.extend(&count.to_le_bytes())?;
-    Ok(())
+    let mut head = [record1; 11];
+    head[1..9].copy_from_slice(&ts.to_le_bytes());
+    head[9..].copy_from_slice(&count.to_le_bytes());
+    head
 }
 
-/// As `spell`, behind what was added to a tail. Without memory some of it may be added.
-pub fn put_entry(out: &mut Tail, entry: &Entry) -> Result<(), NoMemory>
+// What stands in a record before what it lists.
+fn head_of(entry: &Entry) -> [u8; 11]
+    requires { KeepsRules entry.now }
+    ensures { result ≡ head entry.now }
+{
+    match entry {
+        Entry::Replicate { ts, ops } => numbered(1, *ts, ops.len() as u16),
+        Entry::Commit { ts, rows } => numbered(2, *ts, rows.len() as u16),
+    }
+}
+
+// Adds what a record lists.
+fn put_listed(out: &mut Tail, entry: &Entry) -> Result<(), NoMemory>
+    requires { KeepsRules entry.now }
+    ensures front { out.new.front ≡ out.old.front }
+    ensures ok { OnOk result (out.new.added ≡ out.old.added ++ listed entry.now) }
+{
+    match entry {
+        Entry::Replicate { ops, .. } => out.extend(ops.as_bytes()),
+        Entry::Commit { rows, .. } => put_rows(out, rows.as_slice()),
+    }
+}
+
+/// Adds a byte, room for a length of four bytes, which are zero, and a record as `spell` writes it, to what was added
+/// to a tail. Without memory some of it may be added.
+pub fn put_entry_behind(out: &mut Tail, gate: u8, entry: &Entry) -> Result<(), NoMemory>
+    requires { KeepsRules entry.now }
+    ensures front { out.new.front ≡ out.old.front }
+    ensures ok { OnOk result (out.new.added ≡ out.old.added ++ gate ∷ 0 ∷ 0 ∷ 0 ∷ 0 ∷ spelling entry.now) }
+{
+    let mut head = [0; 16];
+    head[0] = gate;
+    head[5..].copy_from_slice(&head_of(entry));
+    out.extend(&head)?;
+    put_listed(out, entry)
+}
+
+// Adds a record.
+fn put_entry(out: &mut Tail, entry: &Entry) -> Result<(), NoMemory>
     requires { KeepsRules entry.now }
     ensures front { out.new.front ≡ out.old.front }
     ensures ok { OnOk result (out.new.added ≡ out.old.added ++ spelling entry.now) }
 {
-    match entry {
-        Entry::Replicate { ts, ops } => {
-            put_head(out, 1, *ts, ops.len() as u16)?;
-            out.extend(ops.as_bytes())
-        }
-        Entry::Commit { ts, rows } => {
-            put_head(out, 2, *ts, rows.len() as u16)?;
-            put_rows(out, rows.as_slice())
-        }
-    }
+    out.extend(&head_of(entry))?;
+    put_listed(out, entry)
 }
 
 /// Appends the one spelling of a record. Without memory nothing is appended.
