@@ -14,8 +14,9 @@ use Rattle.kt_pool.specs.declared.place.Place.{Place}
 use Rattle.kt_tree.specs.Entries.{Entry, value_of, put}
 use Rattle.kt_tree.specs.Takes.{Takes}
 use Rattle.kt_tree.specs.Trees as trees
+use Rattle.kt_tree.specs.declared.seat.Seat.{Seat}
 use Rattle.kt_tree.specs.declared.tree.Tree.{Tree}
-use Rattle.kt_tree.proofs.Callers.{owned, still_tree, still_entries, still_owns, owns_still}
+use Rattle.kt_tree.proofs.Callers.{owned, still_tree, still_entries, still_seat, still_owns, owns_still}
 use Rattle.kt_tree.proofs.Places.{stands_some, one_same, one_other}
 use Rattle.kt_memrowset.specs.declared.store.MemRowSet.{MemRowSet}
 use Rattle.kt_memrowset.specs.Links.{nothing, Link, IsLink, spelling, chain, cells_of, times, step_of, steps_of}
@@ -78,6 +79,10 @@ module _ (s : MemRowSet) (p0 p1 : Contents) (fresh : Link) (op : RowOp) (st : Is
 
   entries1 : trees.entries s.tree p1 ≡ trees.entries s.tree p0
   entries1 = still_entries s.tree p0 p1 st.tree (λ k own. same1 k (inl own))
+
+  -- the seat of a key is where it was
+  pub seat1 : (key : List ℕ) (seat : Seat) → trees.IsSeat s.tree p0 key seat → trees.IsSeat s.tree p1 key seat
+  seat1 = still_seat s.tree p0 p1 st.tree (λ k own. same1 k (inl own))
 
   -- the key is found where it was, if it was there
   pub found1 : (first : Place) → Some first ≡ option_map trees.place_at (value_of op.key (trees.entries s.tree p0)) → value_of op.key (trees.entries s.tree p1) ≡ Some first.cell

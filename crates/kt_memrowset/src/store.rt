@@ -12,7 +12,7 @@ use crate::write::{extend, place};
 use kt_base::{Cells, NoMemory, Octets};
 use kt_history::{ChangeList, Kindly, OpRef, Taken, Target, kind_made};
 use kt_pool::{Place, Pool};
-use kt_tree::Tree;
+use kt_tree::{Seat, Tree};
 use std::alloc::Global;
 
 /// Rows in the cells of a pool. It gives them back by `empty_into` only.
@@ -27,7 +27,7 @@ pub struct MemRowSet {
 impl MemRowSet {
     ghost use Rattle.std.specs.Option.{option_map};
     ghost use Rattle.kt_tree.specs.Entries.{value_of};
-    ghost use Rattle.kt_tree.specs.Trees.{entries, place_at};
+    ghost use Rattle.kt_tree.specs.Trees.{IsSeat, entries, place_at};
     ghost use Rattle.kt_memrowset.specs.Taking.{JoinsIf};
     ghost use Rattle.kt_memrowset.specs.Times.{changes_in, changes_over};
     ghost use Rattle.kt_history.specs.Stores.{kind_made, is_there, last_row, share, changes_upto};
@@ -123,8 +123,8 @@ impl MemRowSet {
         ensures joins { Joins self.old self.new pool.old pool.new op.now ts change }
         ensures target { result ≡ Target.Mem (number_of self.old) }
     {
-        let first = self.tree.get(pool, op.key());
-        self.join(pool, first, ts, op, change)
+        let seat = self.tree.seek(pool, op.key());
+        self.join(pool, &seat, ts, op, change)
     }
 
     /// Takes the change of an operation, if it makes one, in reserved cells: half of what a write of the operation needs
@@ -137,32 +137,33 @@ impl MemRowSet {
         ensures joins { JoinsIf self.old self.new pool.old pool.new op.now ts (kind_made op.now.kind result.there) }
         ensures target { result.target ≡ option_map (λ _. Target.Mem (number_of self.old)) (kind_made op.now.kind result.there) }
     {
-        let first = self.tree.get(pool, op.key());
-        let there = is_live(pool, first);
+        let seat = self.tree.seek(pool, op.key());
+        let there = is_live(pool, seat.value);
         let Some(kind) = kind_made(op.kind(), there) else {
             return Taken {
                 there,
                 target: None,
             };
         };
-        let target = self.join(pool, first, ts, op, kind);
+        let target = self.join(pool, &seat, ts, op, kind);
         Taken {
             there,
             target: Some(target),
         }
     }
 
-    // Takes a change of the row whose first change is placed here, or else of a new row.
+    // Takes a change of the row whose first change is placed at this seat, or else of a new row there.
     fn join(
         &mut self,
         pool: &mut Pool,
-        first: Option<Place>,
+        seat: &Seat,
         ts: u64,
         op: &OpRef<'_>,
         change: Kindly,
     ) -> Target
         requires store { IsStore self.old pool.old }
-        requires found { first ≡ option_map place_at (value_of op.now.key (entries self.old.tree pool.old)) }
+        requires found { seat.now.value ≡ option_map place_at (value_of op.now.key (entries self.old.tree pool.old)) }
+        requires seat { IsSeat self.old.tree pool.old op.now.key seat.now }
         requires room { share op.now ≤ pool.old.reserved }
         requires fits { fits (change_by change op.now) (last_row (hist_in op.now.key (store_of self.old pool.old))) ≡ true }
         ensures joins { Joins self.old self.new pool.old pool.new op.now ts change }
@@ -177,11 +178,12 @@ impl MemRowSet {
         };
         let fresh = place(pool, head, op);
         self.newest = fresh;
-        if let Some(first) = first {
+        if let Some(first) = seat.value {
             extend(pool, first.cell, fresh);
             return Target::Mem(self.id);
         }
-        self.tree.insert_new(pool, op.key(), Place { cell: fresh });
+        self.tree
+            .insert_at(pool, seat, op.key(), Place { cell: fresh });
         Target::Mem(self.id)
     }
 

@@ -3,12 +3,12 @@ use Rattle.kt_history.specs.Rows.{Row}
 use Rattle.kt_history.specs.declared.target.Kindly.{Kindly}
 use Rattle.kt_tree.specs.Entries.{value_of, put}
 use Rattle.kt_tree.specs.Takes.{Takes}
-use Rattle.kt_tree.specs.Trees.{entries, need}
+use Rattle.kt_tree.specs.Trees.{IsSeat, entries, need}
 use Rattle.kt_memrowset.specs.Links.{nothing, Link, chain}
 use Rattle.kt_memrowset.specs.Writes.{IsFresh, Extends}
 use Rattle.kt_memrowset.proofs.Links.{link_again}
 use Rattle.kt_memrowset.proofs.Rows.{row_there, row_alone}
-use Rattle.kt_memrowset.proofs.Applying.{store1, found1, lacks1, is_fresh, joins_there, joins_new}
+use Rattle.kt_memrowset.proofs.Applying.{store1, seat1, found1, lacks1, is_fresh, joins_there, joins_new}
 use Rattle.kt_memrowset.proofs.store.MemRowSet.join.Goals as goal
 
 -- the change with which the store is joined, which has none beside it yet
@@ -31,15 +31,20 @@ returns-in-Some-clause-joins c =
     joins_there c.args.self.now c.args.pool.now c.place-fresh.new.pool (alone c.place-fresh.result c.args.self.now.newest c.args.ts c.args.change c.args.op.now.cells) c.args.op.now c.requires.store c.place-fresh.ensures.vacant c.place-fresh.ensures.others c.place-fresh.ensures.link refl refl c.place-fresh.ensures.takes c.requires.fits refl refl c.in-Some.first.cell (found1 c.args.self.now c.args.pool.now c.place-fresh.new.pool (alone c.place-fresh.result c.args.self.now.newest c.args.ts c.args.change c.args.op.now.cells) c.args.op.now c.requires.store c.place-fresh.ensures.vacant c.place-fresh.ensures.others c.place-fresh.ensures.link refl refl c.place-fresh.ensures.takes c.in-Some.first (sym c.in-Some.is ∙ c.requires.found)) c.extend.new.pool
     (subst (λ (l : Link). Extends c.place-fresh.new.pool c.extend.new.pool c.in-Some.first.cell (chain c.place-fresh.new.pool c.in-Some.first.cell) l) (link_again c.place-fresh.new.pool (alone c.place-fresh.result c.args.self.now.newest c.args.ts c.args.change c.args.op.now.cells) c.place-fresh.ensures.link) c.extend.ensures)
 
-pub insert_new-requires-clause-tree : goal.insert_new-requires-clause-tree
-insert_new-requires-clause-tree c = (store1 c.args.self.now c.args.pool.now c.place-fresh.new.pool (alone c.place-fresh.result c.args.self.now.newest c.args.ts c.args.change c.args.op.now.cells) c.args.op.now c.requires.store c.place-fresh.ensures.vacant c.place-fresh.ensures.others c.place-fresh.ensures.link refl refl c.place-fresh.ensures.takes).tree
+pub insert_at-requires-clause-tree : goal.insert_at-requires-clause-tree
+insert_at-requires-clause-tree c = (store1 c.args.self.now c.args.pool.now c.place-fresh.new.pool (alone c.place-fresh.result c.args.self.now.newest c.args.ts c.args.change c.args.op.now.cells) c.args.op.now c.requires.store c.place-fresh.ensures.vacant c.place-fresh.ensures.others c.place-fresh.ensures.link refl refl c.place-fresh.ensures.takes).tree
 
 pub returns-clause-joins : goal.returns-clause-joins
 returns-clause-joins c =
-    joins_new c.args.self.now c.args.pool.now c.place-fresh.new.pool (alone c.place-fresh.result c.args.self.now.newest c.args.ts c.args.change c.args.op.now.cells) c.args.op.now c.requires.store c.place-fresh.ensures.vacant c.place-fresh.ensures.others c.place-fresh.ensures.link refl refl c.place-fresh.ensures.takes c.requires.fits refl refl (lacks1 c.args.self.now c.args.pool.now c.place-fresh.new.pool (alone c.place-fresh.result c.args.self.now.newest c.args.ts c.args.change c.args.op.now.cells) c.args.op.now c.requires.store c.place-fresh.ensures.vacant c.place-fresh.ensures.others c.place-fresh.ensures.link refl refl c.place-fresh.ensures.takes (sym c.in_default.is ∙ c.requires.found)) c.insert_new.new.self c.insert_new.new.pool c.insert_new.ensures.tree
-    (subst (λ (k : List ℕ). entries c.insert_new.new.self c.insert_new.new.pool ≡ put k c.place-fresh.result (entries c.args.self.now.tree c.place-fresh.new.pool)) c.key.ensures c.insert_new.ensures.put)
-    c.insert_new.ensures.keeps c.insert_new.ensures.grows c.insert_new.ensures.frame
-    (subst (λ (k : List ℕ). Takes c.place-fresh.new.pool c.insert_new.new.pool (need k)) c.key.ensures c.insert_new.ensures.takes)
+    joins_new c.args.self.now c.args.pool.now c.place-fresh.new.pool (alone c.place-fresh.result c.args.self.now.newest c.args.ts c.args.change c.args.op.now.cells) c.args.op.now c.requires.store c.place-fresh.ensures.vacant c.place-fresh.ensures.others c.place-fresh.ensures.link refl refl c.place-fresh.ensures.takes c.requires.fits refl refl (lacks1 c.args.self.now c.args.pool.now c.place-fresh.new.pool (alone c.place-fresh.result c.args.self.now.newest c.args.ts c.args.change c.args.op.now.cells) c.args.op.now c.requires.store c.place-fresh.ensures.vacant c.place-fresh.ensures.others c.place-fresh.ensures.link refl refl c.place-fresh.ensures.takes (sym c.in_default.is ∙ c.requires.found)) c.insert_at.new.self c.insert_at.new.pool c.insert_at.ensures.tree
+    (subst (λ (k : List ℕ). entries c.insert_at.new.self c.insert_at.new.pool ≡ put k c.place-fresh.result (entries c.args.self.now.tree c.place-fresh.new.pool)) c.key.ensures c.insert_at.ensures.put)
+    c.insert_at.ensures.keeps c.insert_at.ensures.grows c.insert_at.ensures.frame
+    (subst (λ (k : List ℕ). Takes c.place-fresh.new.pool c.insert_at.new.pool (need k)) c.key.ensures c.insert_at.ensures.takes)
 
-pub insert_new-requires-clause-absent : goal.insert_new-requires-clause-absent
-insert_new-requires-clause-absent c = ap (λ (k : List ℕ). value_of k (entries c.args.self.now.tree c.place-fresh.new.pool)) c.key.ensures ∙ lacks1 c.args.self.now c.args.pool.now c.place-fresh.new.pool (alone c.place-fresh.result c.args.self.now.newest c.args.ts c.args.change c.args.op.now.cells) c.args.op.now c.requires.store c.place-fresh.ensures.vacant c.place-fresh.ensures.others c.place-fresh.ensures.link refl refl c.place-fresh.ensures.takes (sym c.in_default.is ∙ c.requires.found)
+pub insert_at-requires-clause-absent : goal.insert_at-requires-clause-absent
+insert_at-requires-clause-absent c = ap (λ (k : List ℕ). value_of k (entries c.args.self.now.tree c.place-fresh.new.pool)) c.key.ensures ∙ lacks1 c.args.self.now c.args.pool.now c.place-fresh.new.pool (alone c.place-fresh.result c.args.self.now.newest c.args.ts c.args.change c.args.op.now.cells) c.args.op.now c.requires.store c.place-fresh.ensures.vacant c.place-fresh.ensures.others c.place-fresh.ensures.link refl refl c.place-fresh.ensures.takes (sym c.in_default.is ∙ c.requires.found)
+
+pub insert_at-requires-clause-seat : goal.insert_at-requires-clause-seat
+insert_at-requires-clause-seat c =
+    subst (λ (k : List ℕ). IsSeat c.args.self.now.tree c.place-fresh.new.pool k c.args.seat.now) (sym c.key.ensures)
+    (seat1 c.args.self.now c.args.pool.now c.place-fresh.new.pool (alone c.place-fresh.result c.args.self.now.newest c.args.ts c.args.change c.args.op.now.cells) c.args.op.now c.requires.store c.place-fresh.ensures.vacant c.place-fresh.ensures.others c.place-fresh.ensures.link refl refl c.place-fresh.ensures.takes c.args.op.now.key c.args.seat.now c.requires.seat)
