@@ -6,7 +6,8 @@ use Rattle.std.proofs.lemmas.List.Sums.{sum_by-cons}
 use Rattle.kt_pool.specs.Contents.{Contents, Stands, at_cell, bytes_at, cells_for}
 use Rattle.kt_tree.specs.Entries.{Entry}
 use Rattle.kt_tree.specs.Trees as trees
-use Rattle.kt_tree.proofs.Callers.{owned, still_tree, still_entries, still_owns, owns_still}
+use Rattle.kt_tree.proofs.Callers.{owned, still_tree, still_entries, still_seat, still_owns, owns_still}
+use Rattle.kt_tree.specs.declared.seat.Seat.{Seat}
 use Rattle.kt_tree.proofs.Places.{bytes_same, one_same, one_other}
 use Rattle.kt_dms.specs.declared.store.DeltaMem.{DeltaMem}
 use Rattle.kt_dms.specs.Changes.{change_in, SpellsChange}
@@ -65,6 +66,10 @@ module _ (s : DeltaMem) (old new : Contents) (st : IsStore s old) (same : (k : �
 
   pub entries_still : trees.entries s.tree new ≡ trees.entries s.tree old
   entries_still = still_entries s.tree old new st.tree tree_same
+
+  -- the seat of a key is where it was
+  pub seat_still : (key : List ℕ) (seat : Seat) → trees.IsSeat s.tree old key seat → trees.IsSeat s.tree new key seat
+  seat_still = still_seat s.tree old new st.tree tree_same
 
   kept_still : Kept old new (trees.entries s.tree old)
   kept_still = kept old new (trees.entries s.tree old) st.each (λ k low. same k (inr low))

@@ -16,6 +16,7 @@ use Rattle.kt_pool.specs.declared.place.Place.{Place}
 use Rattle.kt_tree.specs.Entries.{Entry, order, is_at, value_of, put_at, put}
 use Rattle.kt_tree.specs.Takes.{Takes}
 use Rattle.kt_tree.specs.Trees as trees
+use Rattle.kt_tree.specs.declared.seat.Seat.{Seat}
 use Rattle.kt_tree.specs.declared.tree.Tree.{Tree}
 use Rattle.kt_tree.proofs.Places.{bytes_same, one_same, one_other}
 use Rattle.kt_dms.specs.declared.store.DeltaMem.{DeltaMem}
@@ -25,7 +26,7 @@ use Rattle.kt_dms.specs.Stores.{delta_at, deltas_in, deltas_of, steps_for, with_
 use Rattle.kt_dms.proofs.KeyOrder.{is_key, ordinal_again, ts_again, key_lt}
 use Rattle.kt_dms.proofs.OneRow.{step_is}
 use Rattle.kt_dms.proofs.Spelling.{change_stands}
-use Rattle.kt_dms.proofs.Frames.{values-append, each_left, each_right, each_both, value_stands, Kept, kept, entries_still, deltas_still, had_still, owns_back, owns_on, is_still, owned_stands}
+use Rattle.kt_dms.proofs.Frames.{values-append, each_left, each_right, each_both, value_stands, Kept, kept, entries_still, seat_still, deltas_still, had_still, owns_back, owns_on, is_still, owned_stands}
 
 abbrev pub at_key : List ℕ → ℕ → Entry
 at_key key v = record { key = key; value = v }
@@ -106,6 +107,9 @@ module _ (s : DeltaMem) (p0 p1 : Contents) (cell ordinal ts : ℕ) (op : RowOp) 
 
   pub entries1 : trees.entries s.tree p1 ≡ trees.entries s.tree p0
   entries1 = entries_still s p0 p1 st same1
+
+  pub seat1 : (key : List ℕ) (seat : Seat) → trees.IsSeat s.tree p0 key seat → trees.IsSeat s.tree p1 key seat
+  seat1 = seat_still s p0 p1 st same1
 
   not_owned1 : ¬ Owns s p1 cell
   not_owned1 o = not_owned (owns_back s p0 p1 st same1 cell o)

@@ -69,11 +69,12 @@ impl DeltaMem {
         ensures joins { MatchOption (step_at ts (steps_for ordinal (deltas_of self.old pool.old))) (Joins self.old self.new pool.old pool.new ordinal ts op.now change) (λ _. (self.new ≡ self.old) × (pool.new ≡ pool.old)) }
     {
         let key = key_of(ordinal, ts);
-        if self.tree.get(pool, &key).is_some() {
+        let seat = self.tree.seek(pool, &key);
+        if seat.value.is_some() {
             return;
         }
         let fresh = place(pool, change, op);
-        self.tree.insert_new(pool, &key, fresh);
+        self.tree.insert_at(pool, &seat, &key, fresh);
     }
 
     /// The row with this ordinal at a time, told the row before the changes of this store.
