@@ -63,11 +63,14 @@ fn take_at(
     requires reserved { share op.now ≤ stores.old.pool.reserved }
     ensures { IfOk result (λ takes. FitsAt stores.old stores.new at ts op.now takes) }
 {
+    if at == 0 {
+        return Ok(stores.take_in_mem(ts, op));
+    }
     let had = stores.had(alloc, at, op.key(), ts)?;
     let Some(kind) = kind_made(op.kind(), had) else {
         return Ok(false);
     };
-    if at > 0 && kind == Kindly::Ins {
+    if kind == Kindly::Ins {
         return Ok(false);
     }
     stores.join(at, ts, op, kind);

@@ -5,6 +5,7 @@ ghost use Rattle.kt_history.specs.Stores.{share};
 ghost use Rattle.kt_memrowset.specs.Stores.{is_frozen};
 ghost use Rattle.kt_reopen.specs.Standing.{placed, names_in, AreKeptIn, KeyUnderAt, JoinsAt};
 ghost use Rattle.kt_reopen.specs.Steps.{had_at, MayJoin};
+ghost use Rattle.kt_reopen.specs.Walks.{FitsAt};
 
 use kt_base::NoMemory;
 use kt_diskrowset::DiskRowSet;
@@ -40,6 +41,18 @@ impl Opening {
             return Ok(self.mem.live(&self.pool, key));
         }
         self.rowsets[at - 1].had(alloc, &self.pool, key, ts)
+    }
+
+    /// Does an operation on the row that the MemRowSet has, and tells whether that makes a change, which it takes in reserved cells:
+    /// half of what a write of the operation needs suffices. It looks for the row once.
+    pub(crate) fn take_in_mem(&mut self, ts: u64, op: &OpRef<'_>) -> bool
+        requires kept { AreKeptIn self.old }
+        requires under { KeyUnderAt ts op.now.key 0 self.old }
+        requires thawed { is_frozen self.old.mem ≡ false }
+        requires reserved { share op.now ≤ self.old.pool.reserved }
+        ensures { FitsAt self.old self.new 0 ts op.now result }
+    {
+        self.mem.take(&mut self.pool, ts, op).target.is_some()
     }
 
     /// The store at a place takes the change of an operation, which it may take, in reserved cells: half of what a write of the

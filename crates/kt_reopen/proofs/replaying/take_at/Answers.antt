@@ -2,12 +2,17 @@ use Rattle.std.proofs.Common.{◌≡◌, ◌∙◌, ◌-◌, false, Some, None, 
 use Rattle.kt_history.specs.declared.target.Kindly.TheVariants.{Ins}
 use Rattle.kt_history.specs.Rows.{Row}
 use Rattle.kt_history.specs.Stores.{kind_made}
-use Rattle.kt_reopen.specs.Standing.{placed}
+use Rattle.kt_reopen.specs.Standing.{placed, KeyUnderAt}
 use Rattle.kt_reopen.specs.Steps.{had_at}
 use Rattle.kt_reopen.specs.Walks.{FitsAt}
 use Rattle.kt_reopen.proofs.Doing.{fits_none, fits_no_insert, fits_done}
 use Rattle.kt_reopen.proofs.replaying.take_at.Goals as goal
-use Rattle.kt_reopen.proofs.replaying.take_at.Goals.{else-at-gt0-via-then-at-gt0+else-eq, else-at-gt0-via-else-at-gt0}
+
+pub take_in_mem-requires-clause-under : goal.take_in_mem-requires-clause-under
+take_in_mem-requires-clause-under c = subst (λ n. KeyUnderAt c.args.ts c.args.op.now.key n c.args.stores.now) c.if-at-eq0.true c.requires.may.under
+
+pub returns-then-at-eq0 : goal.returns-then-at-eq0
+returns-then-at-eq0 c = subst (λ n. FitsAt c.args.stores.now c.take_in_mem.new.self n c.args.ts c.args.op.now c.take_in_mem.result) (sym c.if-at-eq0.true) c.take_in_mem.ensures
 
 pub returns-in_default : goal.returns-in_default
 returns-in_default c =
@@ -38,8 +43,5 @@ returns c =
     let had = c.in_ok-had.had in
     let found : (fill : Row) → had_at c.args.ts op.key c.args.at (placed fill o) ≡ Some had = λ fill. ap (λ q. had_at c.args.ts q c.args.at (placed fill o)) (sym c.key.ensures) ∙ c.in_ok-had.ensures fill in
     let made : kind_made op.kind had ≡ Some c.in-Some.kind = sym (c.kind_made.ensures ∙ ap (λ k. kind_made k had) c.kind.ensures) ∙ c.in-Some.is in
-    let low : c.in-Some.kind ≡ Ins → c.args.at ≡ 0 = λ ins. elim c.else-at-gt0.branch [
-      | else-at-gt0-via-then-at-gt0+else-eq w ↦ absurd (search rules)
-      | else-at-gt0-via-else-at-gt0 w ↦ omega arith
-    ] in
+    let low : c.in-Some.kind ≡ Ins → c.args.at ≡ 0 = λ ins. absurd (search rules) in
     fits_done o c.join.new.self c.args.at c.args.ts op had c.in-Some.kind found made low c.join.ensures.joins
