@@ -12,3 +12,4 @@ pub mod Batch
 pub mod Matched
 pub mod Fresh
 pub mod Near
+pub mod Waits

@@ -1,5 +1,6 @@
 pub mod Frames
 pub mod Order
+pub mod Waiting
 pub mod Log
 pub mod Numbers
 pub mod Open

@@ -5,16 +5,15 @@ ghost use Rattle.kt_records.specs.Shared.{entry_of};
 ghost use Rattle.kt_journal.specs.Order.{is_above, is_count, follows};
 ghost use Rattle.kt_journal.specs.Tracks.{Tracks};
 
+use crate::waiting::Waiting;
 use kt_base::NoMemory;
 use kt_records::RecordRef;
 use std::alloc::Global;
-use std::collections::BTreeMap;
 
-/// The timestamp of the newest write, and the writes that wait for their COMMIT with their numbers of operations.
+/// The writes that wait for their COMMIT, with their numbers of operations.
 #[derive(Drop)]
 pub struct Order {
-    pub last: Option<u64>,
-    pub waiting: BTreeMap<u64, usize>,
+    pub waiting: Waiting,
 }
 
 fn above(last: Option<u64>, ts: u64) -> bool
@@ -40,8 +39,7 @@ impl Order {
         ensures { Tracks result [] }
     {
         Order {
-            last: None,
-            waiting: BTreeMap::new(alloc),
+            waiting: Waiting::new(alloc),
         }
     }
 
@@ -51,15 +49,14 @@ impl Order {
     {
         match added {
             RecordRef::Replicate { ts, ops } => {
-                if !above(self.last, *ts) {
+                if !above(self.waiting.last(), *ts) {
                     return Ok(false);
                 }
-                self.waiting.insert(*ts, ops.len())?;
-                self.last = Some(*ts);
+                self.waiting.add(*ts, ops.len())?;
                 Ok(true)
             }
             RecordRef::Commit { ts, rows } => {
-                let waiting = self.waiting.remove(ts);
+                let waiting = self.waiting.take(*ts);
                 Ok(counts(waiting, rows.len()))
             }
         }

@@ -7,7 +7,7 @@ ghost use Rattle.kt_journal.specs.Order.{IsFramed};
 
 use kt_base::{NoMemory, Octets};
 use kt_cells::Tail;
-use kt_records::{Entry, put_entry};
+use kt_records::{Entry, put_entry_behind};
 use std::alloc::Global;
 use std::mem;
 
@@ -34,8 +34,7 @@ fn put_frame(out: &mut Tail, entry: &Entry) -> Result<(), NoMemory>
     ensures ok { OnOk result (out.new.added ≡ out.old.added ++ frame (spelling entry.now)) }
 {
     let gate = out.len();
-    out.extend(&[1, 0, 0, 0, 0])?;
-    put_entry(out, entry)?;
+    put_entry_behind(out, 1, entry)?;
     let len = out.len() - gate - 5;
     set_length(out, gate, len as u32);
     Ok(())
