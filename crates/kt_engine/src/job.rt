@@ -590,12 +590,11 @@ impl<L: Disk, D: Disk + Drop, C: Clock> Engine<L, D, C> {
         Ok(self.merge_snapshot(alloc, number)?)
     }
 
-    /// A compaction goes on outside the lock with what was handed out to it, while nothing flies. The store is out to its pass.
+    /// A compaction goes on outside the lock with what was handed out to it, while nothing flies and no superblock is lent.
     pub fn job_leave(&mut self, number: u32)
         requires free { self.old.upkeep.publishing ≡ None }
-        requires stage { (job : JobView) × IsAtStage self.old.upkeep number Stage.Read job × (job.want ≡ Want.Compact job.taken) × (job.output ≡ None) × TakesInputs self.old job × LeavesAs self.old.tablet job }
-        requires as_many { length self.old.tablet.names ≡ length self.old.tablet.core.stores }
-        requires out { (self.old.store.holder ≡ Some number) × (self.old.store.lent ≡ None) }
+        requires stage { (job : JobView) × IsAtStage self.old.upkeep number Stage.Read job × (job.want ≡ Want.Compact job.taken) × TakesInputs self.old job × LeavesAs self.old.tablet job }
+        requires unlent { self.old.store.lent ≡ None }
         requires calm { self.old.tablet.core.aloft ≡ [] }
         requires begun { self.old.upkeep.begun ≢ 0 }
         ensures visit { IsVisit number self.old self.new }

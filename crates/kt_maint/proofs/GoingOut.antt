@@ -69,6 +69,25 @@ pub record WentOut {L D C : Type 0} (tells : Bool) (seen : D → Files) (now : D
   pub near : b.store.next_rowset < b.first_rowset + 2 ^ 44
   pub near_files : b.store.next_file < b.first_file + 2 ^ 44
 
+-- so the turn of the store tells
+pub went_as : {L D C : Type 0} (tells : Bool) (seen : D → Files) (now : D → ℕ) (leaves : D → ℕ → Files → Type 0) (faults : D → ℕ) (n : ℕ) (taken : List ℕ) (a b c : EngineView L D C) (input : JobInput) (lent : Lent D) → IsSide tells seen now leaves faults a.store → IsReady a → MergeBegins a n (want.Compact taken)
+    → HasRead tells n a b input → lent.device ≡ b.store.known → c ≡ record b { store = record b.store { home = None; holder = Some n; lent = lent.meta }; upkeep = c.upkeep } → lent.meta ≡ None → c.upkeep ≡ b.upkeep → (lent.next_rowset ≡ b.store.next_rowset) × (lent.next_file ≡ b.store.next_file) → IsTrue b.store.whole
+    → b.store.next_rowset < b.first_rowset + 2 ^ 44 → b.store.next_file < b.first_file + 2 ^ 44 → WentOut tells seen now leaves faults n taken a b c input lent
+went_as tells seen now leaves faults n taken a b c input lent side ready begins read device went meta upkeep numbers whole near near_files = record {
+  side = side;
+  ready = ready;
+  begins = begins;
+  read = read;
+  went = went;
+  meta = meta;
+  upkeep = upkeep;
+  device = device;
+  numbers = numbers;
+  is_whole = whole;
+  near = near;
+  near_files = near_files;
+}
+
 module _ {L D C : Type 0} (tells : Bool) (seen : D → Files) (now : D → ℕ) (leaves : D → ℕ → Files → Type 0) (faults : D → ℕ) (n : ℕ) (taken : List ℕ) (a b c : EngineView L D C) (input : JobInput) (lent : Lent D)
     (o : WentOut tells seen now leaves faults n taken a b c input lent) where
   abbrev at : JobIsAt a n stage.Begun

@@ -1,7 +1,7 @@
 use Rattle.std.proofs.Common.{◌≡◌, Err, None, Some, inl, refl, sym, ap, subst, ◌∙◌}
 use Rattle.kt_engine.specs.declared.upkeep.Stage.TheVariants as stage
 use Rattle.kt_maint.specs.Runs.{MayAbandon}
-use Rattle.kt_maint.proofs.GoingOut.{WentOut, out_at, leaves_as, out_compacts, is_away, read_abandon, went_quiet}
+use Rattle.kt_maint.proofs.GoingOut.{went_as, out_at, leaves_as, out_compacts, is_away, read_abandon, went_quiet}
 use Rattle.kt_maint.proofs.leaving.go_out.Goals as goal
 
 none_some : {A : Type 0} (x : A) → None ≡ Some x → ⊥
@@ -21,20 +21,7 @@ job_leave-requires-clause-free g c =
     let input = c.in_ok-input.input in
     let lent = c.in-Ok.lent in
     let e = c.in-Ok.ensures in
-    let went : WentOut g.D.Disk.tells g.D.Disk.seen g.D.Disk.now g.D.Disk.leaves g.D.Disk.faults by c.requires.begun.0 a b d input lent = record {
-      side = c.standing.ensures.side;
-      ready = c.requires.calm;
-      begins = c.requires.begun.1;
-      read = c.in_ok-input.ensures.read;
-      went = e.lent.2;
-      meta = e.meta;
-      upkeep = e.upkeep (inl e.meta);
-      device = e.lent.1;
-      numbers = e.numbers;
-      is_whole = e.whole;
-      near = e.near refl;
-      near_files = e.near_files refl;
-    } in
+    let went = went_as g.D.Disk.tells g.D.Disk.seen g.D.Disk.now g.D.Disk.leaves g.D.Disk.faults by c.requires.begun.0 a b d input lent c.standing.ensures.side c.requires.calm c.requires.begun.1 c.in_ok-input.ensures.read e.lent.1 e.lent.2 e.meta (e.upkeep (inl e.meta)) e.numbers e.whole (e.near refl) (e.near_files refl) in
     (out_at g.D.Disk.tells g.D.Disk.seen g.D.Disk.now g.D.Disk.leaves g.D.Disk.faults by c.requires.begun.0 a b d input lent went).free
 
 pub job_leave-requires-clause-stage : goal.job_leave-requires-clause-stage
@@ -46,47 +33,9 @@ job_leave-requires-clause-stage g c =
     let input = c.in_ok-input.input in
     let lent = c.in-Ok.lent in
     let e = c.in-Ok.ensures in
-    let went : WentOut g.D.Disk.tells g.D.Disk.seen g.D.Disk.now g.D.Disk.leaves g.D.Disk.faults by c.requires.begun.0 a b d input lent = record {
-      side = c.standing.ensures.side;
-      ready = c.requires.calm;
-      begins = c.requires.begun.1;
-      read = c.in_ok-input.ensures.read;
-      went = e.lent.2;
-      meta = e.meta;
-      upkeep = e.upkeep (inl e.meta);
-      device = e.lent.1;
-      numbers = e.numbers;
-      is_whole = e.whole;
-      near = e.near refl;
-      near_files = e.near_files refl;
-    } in
+    let went = went_as g.D.Disk.tells g.D.Disk.seen g.D.Disk.now g.D.Disk.leaves g.D.Disk.faults by c.requires.begun.0 a b d input lent c.standing.ensures.side c.requires.calm c.requires.begun.1 c.in_ok-input.ensures.read e.lent.1 e.lent.2 e.meta (e.upkeep (inl e.meta)) e.numbers e.whole (e.near refl) (e.near_files refl) in
     let at = out_at g.D.Disk.tells g.D.Disk.seen g.D.Disk.now g.D.Disk.leaves g.D.Disk.faults by c.requires.begun.0 a b d input lent went in
-    (at.job, record { has = at.has; at = at.at }, out_compacts g.D.Disk.tells g.D.Disk.seen g.D.Disk.now g.D.Disk.leaves g.D.Disk.faults by c.requires.begun.0 a b d input lent went, at.output, at.takes, leaves_as g.D.Disk.tells g.D.Disk.seen g.D.Disk.now g.D.Disk.leaves g.D.Disk.faults by c.requires.begun.0 a b d input lent went)
-
-pub job_leave-requires-clause-as_many : goal.job_leave-requires-clause-as_many
-job_leave-requires-clause-as_many g c =
-    let by = c.args.by in
-    let a = c.args.engine.now in
-    let b = c.read.new.engine in
-    let d = c.store_out.new.self in
-    let input = c.in_ok-input.input in
-    let lent = c.in-Ok.lent in
-    let e = c.in-Ok.ensures in
-    let went : WentOut g.D.Disk.tells g.D.Disk.seen g.D.Disk.now g.D.Disk.leaves g.D.Disk.faults by c.requires.begun.0 a b d input lent = record {
-      side = c.standing.ensures.side;
-      ready = c.requires.calm;
-      begins = c.requires.begun.1;
-      read = c.in_ok-input.ensures.read;
-      went = e.lent.2;
-      meta = e.meta;
-      upkeep = e.upkeep (inl e.meta);
-      device = e.lent.1;
-      numbers = e.numbers;
-      is_whole = e.whole;
-      near = e.near refl;
-      near_files = e.near_files refl;
-    } in
-    (out_at g.D.Disk.tells g.D.Disk.seen g.D.Disk.now g.D.Disk.leaves g.D.Disk.faults by c.requires.begun.0 a b d input lent went).as_many
+    (at.job, record { has = at.has; at = at.at }, out_compacts g.D.Disk.tells g.D.Disk.seen g.D.Disk.now g.D.Disk.leaves g.D.Disk.faults by c.requires.begun.0 a b d input lent went, at.takes, leaves_as g.D.Disk.tells g.D.Disk.seen g.D.Disk.now g.D.Disk.leaves g.D.Disk.faults by c.requires.begun.0 a b d input lent went)
 
 pub job_leave-requires-clause-begun : goal.job_leave-requires-clause-begun
 job_leave-requires-clause-begun g c =
@@ -97,24 +46,11 @@ job_leave-requires-clause-begun g c =
     let input = c.in_ok-input.input in
     let lent = c.in-Ok.lent in
     let e = c.in-Ok.ensures in
-    let went : WentOut g.D.Disk.tells g.D.Disk.seen g.D.Disk.now g.D.Disk.leaves g.D.Disk.faults by c.requires.begun.0 a b d input lent = record {
-      side = c.standing.ensures.side;
-      ready = c.requires.calm;
-      begins = c.requires.begun.1;
-      read = c.in_ok-input.ensures.read;
-      went = e.lent.2;
-      meta = e.meta;
-      upkeep = e.upkeep (inl e.meta);
-      device = e.lent.1;
-      numbers = e.numbers;
-      is_whole = e.whole;
-      near = e.near refl;
-      near_files = e.near_files refl;
-    } in
+    let went = went_as g.D.Disk.tells g.D.Disk.seen g.D.Disk.now g.D.Disk.leaves g.D.Disk.faults by c.requires.begun.0 a b d input lent c.standing.ensures.side c.requires.calm c.requires.begun.1 c.in_ok-input.ensures.read e.lent.1 e.lent.2 e.meta (e.upkeep (inl e.meta)) e.numbers e.whole (e.near refl) (e.near_files refl) in
     (out_at g.D.Disk.tells g.D.Disk.seen g.D.Disk.now g.D.Disk.leaves g.D.Disk.faults by c.requires.begun.0 a b d input lent went).begun
 
-pub job_leave-requires-clause-out : goal.job_leave-requires-clause-out
-job_leave-requires-clause-out g c = let e = c.in-Ok.ensures in (ap (λ v. v.store.holder) e.lent.2, ap (λ v. v.store.lent) e.lent.2 ∙ e.meta)
+pub job_leave-requires-clause-unlent : goal.job_leave-requires-clause-unlent
+job_leave-requires-clause-unlent g c = ap (λ v. v.store.lent) c.in-Ok.ensures.lent.2 ∙ c.in-Ok.ensures.meta
 
 pub job_leave-requires-clause-calm : goal.job_leave-requires-clause-calm
 job_leave-requires-clause-calm g c = ap (λ v. v.tablet.core.aloft) c.in-Ok.ensures.lent.2 ∙ ap (λ v. v.tablet.core.aloft) c.read.ensures.beside ∙ c.requires.calm.calm
@@ -128,20 +64,7 @@ returns-in-Ok-clause-quiet g c =
     let input = c.in_ok-input.input in
     let lent = c.in-Ok.lent in
     let e = c.in-Ok.ensures in
-    let went : WentOut g.D.Disk.tells g.D.Disk.seen g.D.Disk.now g.D.Disk.leaves g.D.Disk.faults by c.requires.begun.0 a b d input lent = record {
-      side = c.standing.ensures.side;
-      ready = c.requires.calm;
-      begins = c.requires.begun.1;
-      read = c.in_ok-input.ensures.read;
-      went = e.lent.2;
-      meta = e.meta;
-      upkeep = e.upkeep (inl e.meta);
-      device = e.lent.1;
-      numbers = e.numbers;
-      is_whole = e.whole;
-      near = e.near refl;
-      near_files = e.near_files refl;
-    } in
+    let went = went_as g.D.Disk.tells g.D.Disk.seen g.D.Disk.now g.D.Disk.leaves g.D.Disk.faults by c.requires.begun.0 a b d input lent c.standing.ensures.side c.requires.calm c.requires.begun.1 c.in_ok-input.ensures.read e.lent.1 e.lent.2 e.meta (e.upkeep (inl e.meta)) e.numbers e.whole (e.near refl) (e.near_files refl) in
     let at = out_at g.D.Disk.tells g.D.Disk.seen g.D.Disk.now g.D.Disk.leaves g.D.Disk.faults by c.requires.begun.0 a b d input lent went in
     went_quiet by a b d c.job_leave.new.self c.read.ensures.quiet c.store_out.ensures.visit e.lent.2 (e.upkeep (inl e.meta)) c.job_leave.ensures.visit (record at.job { stage = stage.Outside }) (c.job_leave.ensures.left at.job at.has)
 
@@ -154,20 +77,7 @@ returns-in-Ok-clause-away g c = λ taken begins.
     let input = c.in_ok-input.input in
     let lent = c.in-Ok.lent in
     let e = c.in-Ok.ensures in
-    let went : WentOut g.D.Disk.tells g.D.Disk.seen g.D.Disk.now g.D.Disk.leaves g.D.Disk.faults by taken a b d input lent = record {
-      side = c.standing.ensures.side;
-      ready = c.requires.calm;
-      begins = begins;
-      read = c.in_ok-input.ensures.read;
-      went = e.lent.2;
-      meta = e.meta;
-      upkeep = e.upkeep (inl e.meta);
-      device = e.lent.1;
-      numbers = e.numbers;
-      is_whole = e.whole;
-      near = e.near refl;
-      near_files = e.near_files refl;
-    } in
+    let went = went_as g.D.Disk.tells g.D.Disk.seen g.D.Disk.now g.D.Disk.leaves g.D.Disk.faults by taken a b d input lent c.standing.ensures.side c.requires.calm begins c.in_ok-input.ensures.read e.lent.1 e.lent.2 e.meta (e.upkeep (inl e.meta)) e.numbers e.whole (e.near refl) (e.near_files refl) in
     let at = out_at g.D.Disk.tells g.D.Disk.seen g.D.Disk.now g.D.Disk.leaves g.D.Disk.faults by taken a b d input lent went in
     let quiet = went_quiet by a b d c.job_leave.new.self c.read.ensures.quiet c.store_out.ensures.visit e.lent.2 (e.upkeep (inl e.meta)) c.job_leave.ensures.visit (record at.job { stage = stage.Outside }) (c.job_leave.ensures.left at.job at.has) in
     is_away g.D.Disk.tells g.D.Disk.seen g.D.Disk.now g.D.Disk.leaves g.D.Disk.faults by taken a b d input lent went c.job_leave.new.self c.end_of_turn-most.result c.end_of_turn-most.ensures.few quiet.visit (c.job_leave.ensures.left at.job at.has)

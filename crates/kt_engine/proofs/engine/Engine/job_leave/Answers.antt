@@ -14,7 +14,7 @@ invariant_of-self g c =
     let old = sym c.self.view_is in
     let job = rw old at c.requires.stage in
     let out = goes_outside g.L.Disk.tells g.L.Disk.seen g.D.Disk.tells g.D.Disk.seen g.D.Disk.faults g.C.Clock.readings _ c.self.invariant.1 (rw c.deref.ensures at c.standing.ensures.sound) c.self.invariant.0.ready.shelved (rw c.deref.ensures at c.standing.ensures.named) (rw c.deref.ensures at c.standing.ensures.noted)
-    (rw old at c.requires.calm) (rw old at c.requires.free) (rw old at c.requires.out).1 (rw old at c.requires.begun) c.args.number job.0 job.1.has job.2 job.4 job.5 in
+    (rw old at c.requires.calm) (rw old at c.requires.free) (rw old at c.requires.unlent) (rw old at c.requires.begun) c.args.number job.0 job.1.has job.2 job.3 job.4 in
     left_both g.L.Disk.tells g.L.Disk.seen g.L.Disk.now g.L.Disk.leaves g.L.Disk.faults g.D.Disk.tells g.D.Disk.seen g.D.Disk.faults _ c.self.invariant c.args.number job.0 job.1.has c.go_on.new.self (c.go_on.ensures.own job.0 job.1.has) (rw old at c.requires.free) c.go_on.ensures.begun out
 
 pub returns-clause-visit : goal.returns-clause-visit
