@@ -1,6 +1,6 @@
 //! Maintenance of a run, by the jobs and the workers of kt_maint.
 use kt_base::{Chore, Clock};
-use kt_disk::Disk;
+use kt_disk::{Disk, Gate};
 use kt_engine::{Engine, MaintNo};
 use kt_maint::run_chore;
 use kt_maint::work::work;
@@ -9,10 +9,13 @@ use kt_serve::Chores;
 use std::alloc::Global;
 use std::sync::Wait;
 
-/// The jobs that a maintenance command asks for, and those that a worker picks.
-pub struct Jobs;
+/// The jobs that a maintenance command asks for, and those that a worker picks. The gate is called at their points.
+#[derive(Drop)]
+pub struct Jobs<'g, G> {
+    pub gate: &'g G,
+}
 
-impl<L: Disk, D: Disk + Drop, C: Clock> Chores<L, D, C> for Jobs {
+impl<'g, L: Disk, D: Disk + Drop, C: Clock, G: Gate> Chores<L, D, C> for Jobs<'g, G> {
     fn run<R: Wait>(
         &self,
         rt: &R,
@@ -21,7 +24,7 @@ impl<L: Disk, D: Disk + Drop, C: Clock> Chores<L, D, C> for Jobs {
         pass: &mut Pass<Engine<L, D, C>>,
         chore: Chore,
     ) -> Result<(), MaintNo> {
-        run_chore(rt, alloc, lock, pass, chore)
+        run_chore(rt, alloc, lock, pass, chore, self.gate)
     }
 
     fn work<R: Wait>(
@@ -31,6 +34,6 @@ impl<L: Disk, D: Disk + Drop, C: Clock> Chores<L, D, C> for Jobs {
         lock: &SeatLock<Engine<L, D, C>>,
         pass: &mut Pass<Engine<L, D, C>>,
     ) {
-        work(rt, alloc, lock, pass);
+        work(rt, alloc, lock, pass, self.gate);
     }
 }

@@ -129,7 +129,7 @@ fn play<
         plan.as_slice(),
         workers,
         gate,
-        &Jobs,
+        &Jobs { gate },
     ) {
         Ok(Ended { ends, end, engine }) => match end {
             End::Done => (gather(alloc, ends, false), engine),

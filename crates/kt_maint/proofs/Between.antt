@@ -1,5 +1,5 @@
 -- A call whose job goes outside the lock, as the part of its pass tells.
-use Rattle.std.proofs.Common.{◌≡◌, ℕ, Bool, List, Option, Some, Result, Ok, Err, sym, ap, subst, ◌∙◌}
+use Rattle.std.proofs.Common.{◌≡◌, ◌⊎◌, ℕ, Bool, true, List, Option, Some, Result, Ok, Err, inl, inr, sym, ap, subst, ◌∙◌}
 use Rattle.std.specs.Prelude.{OnOk}
 use Rattle.kt_disk.specs.Disk.{Files}
 use Rattle.kt_history.specs.declared.event.Event.{Event}
@@ -11,14 +11,16 @@ use Rattle.kt_engine.specs.Visits.{PartView, part_in, IsVisit}
 use Rattle.kt_engine.specs.declared.job.MaintNo.{MaintNo}
 use Rattle.kt_engine.specs.declared.job.MaintNo.TheVariants as no
 use Rattle.kt_engine.proofs.Visiting.{root_stays}
-use Rattle.kt_maint.specs.Calls.{AfterCall, AfterEnd, AfterStart, AfterTurn, ComesTo, HasAsked, HasAway, HasEndedJob, HasNoJob, IsBetween, SameUpkeep, ran_of}
+use Rattle.kt_maint.specs.Calls.{AfterCall, AfterEnd, AfterStart, AfterTurn, ComesTo, HasAsked, HasAway, HasEndedJob, HasNoJob, IsBetween, SameUpkeep, has_stop, ran_of}
 use Rattle.kt_maint.specs.Done.{FoundBy, HasDoneJob, HasGiven}
 use Rattle.kt_maint.specs.Outside.{EndsAs, EndsRead, HasWritten, StartsAs, ended}
 use Rattle.kt_maint.specs.Runs.{HasNoDevice as PassHasNone, StandsAs}
+use Rattle.kt_maint.specs.Work.{LeftNone}
 use Rattle.kt_maint.specs.declared.jobs.Start.{Start}
 use Rattle.kt_maint.specs.declared.jobs.Start.TheVariants as start
 use Rattle.kt_maint.specs.declared.outside.Outcome.{Outcome}
 use Rattle.kt_maint.specs.declared.outside.Outside.{Outside}
+use Rattle.kt_maint.specs.declared.run.Ran.TheVariants as ran
 use Rattle.kt_maint.specs.declared.tries.Turn.{Turn}
 use Rattle.kt_maint.specs.declared.tries.Turn.TheVariants as turn
 use Rattle.kt_maint.proofs.Begun.{ends_same}
@@ -97,6 +99,26 @@ pub end_home : {L D C : Type 0} (before after : Option (PartView L D C)) (lines 
 end_home before after lines (Ok done) h = h.1
 end_home before after lines (Err no.Stopped) h = h.1
 end_home before after lines (Err no.Memory) h = h.0
+
+-- and no job, unless the tablet has stopped
+pub end_none : {L D C : Type 0} (before after : Option (PartView L D C)) (lines : List Event) (r : Result (Unit {0}) MaintNo) → AfterEnd before after lines r → HasNoJob after ⊎ (has_stop lines ≡ true)
+end_none before after lines (Ok done) h = inl (record { part = h.0.part; is = h.0.is; none = ap (λ (u : UpkeepView). u.job) h.0.upkeep })
+end_none before after lines (Err no.Stopped) h = inr h.0
+end_none before after lines (Err no.Memory) h = inl h.1
+
+-- how a call ended whose job went outside, as that ended
+pub told_ran : (r : Result (Unit {0}) MaintNo) (P : Type 0) → OnOk r P → ran_of r ≡ Ok ran.Done → P
+told_ran (Ok done) P h e = h
+told_ran (Err x) P h e = absurd cc
+
+-- a try in a visit leaves no job to a pass that had none
+pub starts_none : {L D C : Type 0} (tells : Bool) (seen : D → Files) (n : ℕ) (w : Want) (x y : EngineView L D C) (s : Start Turn D) → StartsAs tells seen n w x y s → LeftNone n x y s
+starts_none tells seen n w x y (start.Over turn.Done) h = λ none. inl (ap (λ (u : UpkeepView). u.job) h.0.upkeep)
+starts_none tells seen n w x y (start.Over turn.Nothing) h = λ none. inl h.1
+starts_none tells seen n w x y (start.Over turn.Wait) h = λ none. inl (ap (λ (u : UpkeepView). u.job) h.0 ∙ none)
+starts_none tells seen n w x y (start.Over turn.Memory) h = λ none. inl (h.1 none)
+starts_none tells seen n w x y (start.Over turn.Stopped) h = λ none. inr h.0
+starts_none tells seen n w x y (start.Out out) h = tt
 
 -- it has no job as it had none
 none_since : {L D C : Type 0} (a b : Option (PartView L D C)) → SameUpkeep a b → HasNoJob a → HasNoJob b

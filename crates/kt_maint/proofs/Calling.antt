@@ -2,7 +2,7 @@
 use Rattle.std.proofs.Common.{◌≡◌, ℕ, ◌++◌, List, [], ◌∷◌, Bool, true, false, cond, Option, Some, None, Ok, Err, Result, refl, sym, ap, subst, ◌∙◌, inl, inr}
 use Rattle.std.proofs.lemmas.List.{append-nil, append_assoc}
 use Rattle.kt_seatlock.specs.Trails.{Each}
-use Rattle.std.specs.Prelude.{◌==◌, ◌^◌, ◌-◌}
+use Rattle.std.specs.Prelude.{◌==◌, ◌≢◌, ◌^◌, ◌-◌}
 use Rattle.kt_base.specs.declared.chore.Chore.{Chore}
 use Rattle.kt_history.specs.declared.event.Event.{Event}
 use Rattle.kt_history.specs.declared.event.Event.TheVariants as event
@@ -11,7 +11,7 @@ use Rattle.kt_pick.specs.declared.rules.Want.{Want}
 use Rattle.kt_engine.specs.Engines.{EngineView, TellsStop}
 use Rattle.kt_engine.specs.Visits.{PartView, part_in, out_of, lent_of, session_of, IsVisit}
 use Rattle.kt_engine.specs.Calls.{SeesOthers, HasNoDevice, StandsStill}
-use Rattle.kt_engine.specs.Jobs.{UpkeepView, Last, HasUpkeep, upkeep_at, finished, nothing, more, without_want}
+use Rattle.kt_engine.specs.Jobs.{UpkeepView, Last, HasUpkeep, job_of, upkeep_at, finished, nothing, more, without_want}
 use Rattle.kt_engine.specs.Rounds.{round_of}
 use Rattle.kt_engine.proofs.Visiting.{root_stays}
 use Rattle.kt_engine.specs.declared.job.MaintNo.{MaintNo}
@@ -22,7 +22,9 @@ use Rattle.kt_maint.specs.declared.tries.Turn.{Turn}
 use Rattle.kt_maint.specs.declared.tries.Turn.TheVariants as turn
 use Rattle.kt_maint.specs.Runs.{is_pass, HasNoDevice as PassHasNone, AddsStop, StandsAs, RunsAs}
 use Rattle.kt_maint.specs.Done.{HasDoneJob}
-use Rattle.kt_maint.specs.Calls.{has_stop, want_of, HasAsked, SameUpkeep, AfterTurn, AfterCall, HasBegunRound}
+use Rattle.kt_maint.specs.Calls.{has_stop, want_of, HasAsked, HasNoJob, LeavesNoJob, SameUpkeep, AfterTurn, AfterCall, HasBegunRound}
+use Rattle.kt_maint.specs.Work.{LeftNone}
+use Rattle.kt_maint.specs.declared.jobs.Start.TheVariants as start
 use Rattle.kt_maint.proofs.Stages.{some_is}
 use Rattle.kt_maint.proofs.Visiting.{stands_same}
 
@@ -134,6 +136,18 @@ module _ {L D C : Type 0} where
       pub beside_home : y ≡ record x { upkeep = y.upkeep } → HasNoDevice told'
       beside_home e = no_device_told (record { log = ap (λ (v : EngineView L D C). is_pass v.log.holder n) e ∙ pass_home.log; store = ap (λ (v : EngineView L D C). is_pass v.store.holder n) e ∙ pass_home.store })
 
+      -- ---- of its job
+
+      pub job_stays : job_of n y.upkeep ≡ job_of n x.upkeep → HasNoJob told → HasNoJob told'
+      job_stays same before = record { part = part_in y n; is = is'; none = same ∙ ap (λ (p : PartView L D C). p.pass.upkeep.job) (part_is told before.part x n before.is is) ∙ before.none }
+
+      -- a pass that had none has none, or the tablet has stopped
+      pub left_told : {T : Type 0} (t : T) (seen : List Event) → TellsStop y.tablet.core → seen ≡ y.tablet.core.trail → LeftNone {T = T} n x y (start.Over t) → LeavesNoJob told told' seen
+      left_told t seen tells sees left before = elim (left (ap (λ (p : PartView L D C). p.pass.upkeep.job) (part_is told before.part x n before.is is) ∙ before.none)) [
+        | inl none ↦ inl (record { part = part_in y n; is = is'; none = none })
+        | inr stopped ↦ inr (stop_told y seen tells sees stopped)
+      ]
+
       -- ---- of a round
 
       pub round_told : (c : Chore) (wants : List Want) → HasUpkeep n (round_of c wants (upkeep_at n x.upkeep.passes)) x.upkeep y.upkeep → HasBegunRound c wants told told'
@@ -190,6 +204,10 @@ module _ {L D C : Type 0} (a b c : Option (PartView L D C)) where
   nothing_then w first second = (asked_then (nothing w) first second.0, second.1)
 
 module _ {L D C : Type 0} (b c : Option (PartView L D C)) where
+  -- of an ask that has ended no job is left
+  asked_none : (last : Last) → HasAsked last b c → HasNoJob c
+  asked_none last h = record { part = h.part; is = h.is; none = h.job }
+
   -- however a call ended
   pub call_home : (w : Want) (seen : List Event) (r : Result Ran MaintNo) → AfterCall w b c seen r → HasNoDevice c
   call_home w seen (Ok ran.Done) call = call.1
@@ -201,6 +219,17 @@ module _ {L D C : Type 0} (b c : Option (PartView L D C)) where
   call_stops w seen (Ok r) call e = absurd cc
   call_stops w seen (Err no.Stopped) call e = call.0
   call_stops w seen (Err no.Memory) call e = absurd cc
+
+  -- a call that has ended leaves no job
+  pub ran_none : (w : Want) (seen : List Event) (r : Ran) → AfterCall w b c seen (Ok r) → HasNoJob c
+  ran_none w seen ran.Done call = asked_none (finished w) call.0
+  ran_none w seen ran.Nothing call = asked_none (nothing w) call.0
+
+  -- and none to a pass that had none, unless the tablet has stopped
+  pub call_none : (w : Want) (seen : List Event) (r : Result Ran MaintNo) → AfterCall w b c seen r → r ≢ Err no.Stopped → HasNoJob b → HasNoJob c
+  call_none w seen (Ok r) call goes before = ran_none w seen r call
+  call_none w seen (Err no.Stopped) call goes before = absurd (goes refl)
+  call_none w seen (Err no.Memory) call goes before = call.1 before
 
 -- nothing has changed
 pub still_itself : {L D C : Type 0} (told : Option (PartView L D C)) → HasNoDevice told → StandsStill told told × SameUpkeep told told
@@ -229,3 +258,22 @@ none_some n e = cc
 pub sees_stop : (n : ℕ) (a b c : List Event) → SeesOthers n a b → AddsStop b c → SeesOthers n a c
 sees_stop n a b c first (inl e) = subst (SeesOthers n a) (sym e) first
 sees_stop n a b c first (inr e) = sees_then n a b c first (event.Stop ∷ [], e, (none_some n, tt))
+
+-- ---- a pass without a job
+
+stop_stays : (lines more : List Event) → has_stop lines ≡ true → has_stop (lines ++ more) ≡ true
+stop_stays [] more h = absurd cc
+stop_stays (event.Begin s i ts m ∷ lines) more h = stop_stays lines more h
+stop_stays (event.End s i ts ∷ lines) more h = stop_stays lines more h
+stop_stays (event.Look s i t m ∷ lines) more h = stop_stays lines more h
+stop_stays (event.Rows s i t ∷ lines) more h = stop_stays lines more h
+stop_stays (event.Ancient s i t a ∷ lines) more h = stop_stays lines more h
+stop_stays (event.Busy s i t f ∷ lines) more h = stop_stays lines more h
+stop_stays (event.Mark s i a ∷ lines) more h = stop_stays lines more h
+stop_stays (event.Chore s i ∷ lines) more h = stop_stays lines more h
+stop_stays (event.Large s i n ∷ lines) more h = stop_stays lines more h
+stop_stays (event.Stop ∷ lines) more h = refl
+
+-- several visits leave none
+pub none_then : {L D C : Type 0} (n : ℕ) (a b c : Option (PartView L D C)) (sees then : List Event) → LeavesNoJob a b sees → SeesOthers n sees then → LeavesNoJob b c then → LeavesNoJob a c then
+none_then n a b c sees then first more second none = elim (first none) [ inl left ↦ second left | inr stop ↦ inr (ap has_stop more.1 ∙ stop_stays sees more.0 stop) ]

@@ -1,5 +1,5 @@
 -- What a call for a job tells by the part of its pass.
-use Rattle.std.specs.Prelude.{◌≡◌, ◌^◌, ◌-◌, ℕ, Bool, true, false, List, [], ◌∷◌, Option, Some, None, Result, Ok, Err}
+use Rattle.std.specs.Prelude.{◌≡◌, ◌⊎◌, ◌^◌, ◌-◌, ℕ, Bool, true, false, List, [], ◌∷◌, Option, Some, None, Result, Ok, Err}
 use Rattle.kt_base.specs.declared.chore.Chore.{Chore}
 use Rattle.kt_disk.specs.Disk.{Files}
 use Rattle.kt_history.specs.declared.event.Event.{Event}
@@ -53,6 +53,10 @@ pub record HasNoJob {L D C : Type 0} (told : Option (PartView L D C)) : Type 0 w
   pub part : PartView L D C
   pub is : told ≡ Some part
   pub none : part.pass.upkeep.job ≡ None
+
+-- no job is left to a pass that had none, unless the tablet has stopped
+abbrev pub LeavesNoJob : {L D C : Type 0} → Option (PartView L D C) → Option (PartView L D C) → List Event → Type 0
+LeavesNoJob before after seen = HasNoJob before → HasNoJob after ⊎ (has_stop seen ≡ true)
 
 -- a call for this want: for want of memory a pass that had no job has none, and has no device
 abbrev pub AfterCall : {L D C : Type 0} → Want → Option (PartView L D C) → Option (PartView L D C) → List Event → Result Ran MaintNo → Type 0

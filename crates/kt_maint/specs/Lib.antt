@@ -5,3 +5,4 @@ pub mod JobRuns
 pub mod Outside
 pub mod Calls
 pub mod Work
+pub mod Points

@@ -4,6 +4,8 @@
 //! same rows at each time from its mark on. `run_chore` does all that a command asks for. A job is run in one visit of the lock, while nothing flies and no
 //! record waits for the log, and its device calls are made inside that visit. A compaction takes two: in the first it reads its disk rowsets and takes the
 //! store with it; it merges and writes with the lock free; and in the second, while nothing flies, it puts what came meanwhile into its outputs and publishes.
+//! The gate of the run is called outside the lock: once what a compaction writes there is written, and once a job is done. The points of a job in one visit are
+//! told behind that visit.
 //! It stands on kt_engine for the events of a job, on kt_merge for what is written, and on kt_files and kt_storeside for the files and the superblock.
 #![tactic(auto)]
 
@@ -17,6 +19,7 @@ mod leaving;
 pub mod merging;
 mod numbers;
 pub mod outside;
+mod points;
 mod publishing;
 mod ready;
 mod rewriting;

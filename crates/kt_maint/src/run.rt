@@ -1,17 +1,19 @@
 //! Calls for one job, each in a visit of the lock in which nothing is under way, and a compaction in two.
-ghost use Rattle.std.specs.Prelude.{◌≡◌, false, [], None, Some};
+ghost use Rattle.std.specs.Prelude.{◌≡◌, ℕ, false, [], None, Some, Ok, OnOk};
 ghost use Rattle.kt_seatlock.specs.Passes.{number, seen, part, got, MayEnter, IsBack, IsSamePass, IsAsFull};
 ghost use Rattle.kt_pick.specs.declared.rules.Want.TheVariants as want;
 ghost use Rattle.kt_engine.specs.Calls.{SeesOthers, HasNoDevice, StandsStill};
 ghost use Rattle.kt_engine.specs.Visits.{part_in};
 ghost use Rattle.kt_maint.specs.Calls.{AfterCall, AfterEnd, AfterStart, ComesTo, HasAway, ran_of};
+ghost use Rattle.kt_maint.specs.Points.{HasTold};
 
 use crate::ending::end_now;
 use crate::jobs::{Start, start_now};
 use crate::outside::{Outcome, Outside, write_outside};
+use crate::points::{tell_done, tell_ended, tell_written};
 use crate::tries::Turn;
 use kt_base::Clock;
-use kt_disk::Disk;
+use kt_disk::{Disk, Gate, Point};
 use kt_engine::upkeep::copy_ids;
 use kt_engine::{Engine, MaintNo};
 use kt_pick::Want;
@@ -34,13 +36,15 @@ fn is_held<L: Disk, D: Disk + Drop, C: Clock>(engine: &Engine<L, D, C>) -> bool 
     !engine.is_stopped() && !engine.is_idle()
 }
 
-// One visit that tries a job, or begins one that goes on outside. Where it has to wait for what another pass has, it wakes nobody who rests.
+// One visit that tries a job, or begins one that goes on outside, and tells the number of the last job that has begun. Where it has to wait for what another pass
+// has, it wakes nobody who rests.
 fn try_job<L: Disk, D: Disk + Drop, C: Clock, R: Wait>(
     rt: &R,
     alloc: Global,
     lock: &SeatLock<Engine<L, D, C>>,
     pass: &mut Pass<Engine<L, D, C>>,
     want: &Want,
+    job: &mut u32,
 ) -> Start<Turn, D>
     requires enters { MayEnter lock.now pass.old }
     requires home { HasNoDevice (part pass.old) }
@@ -56,6 +60,7 @@ fn try_job<L: Disk, D: Disk + Drop, C: Clock, R: Wait>(
         return Start::Over(Turn::Wait);
     }
     let start = start_now(alloc, &mut engine, by, want);
+    *job = engine.pulse().begun;
     // Its lines tell whether the tablet has stopped.
     engine.standing();
     lock.leave(pass, engine);
@@ -110,13 +115,15 @@ pub fn end_job<L: Disk, D: Disk + Drop, C: Clock, R: Wait>(
     ended
 }
 
-/// What a compaction of this pass does outside the lock, and its last visit.
-pub fn end_outside<L: Disk, D: Disk + Drop, C: Clock, R: Wait>(
+/// What a compaction of this pass does outside the lock, and its last visit. The gate is called behind either, for the job of that number.
+pub fn end_outside<L: Disk, D: Disk + Drop, C: Clock, R: Wait, G: Gate>(
     rt: &R,
     alloc: Global,
     lock: &SeatLock<Engine<L, D, C>>,
     pass: &mut Pass<Engine<L, D, C>>,
     out: Outside<D>,
+    job: u32,
+    gate: &G,
 ) -> Result<(), MaintNo>
     requires enters { MayEnter lock.now pass.old }
     requires away { HasAway D.tells D.seen (number pass.old) out (part pass.old) }
@@ -124,9 +131,14 @@ pub fn end_outside<L: Disk, D: Disk + Drop, C: Clock, R: Wait>(
     ensures still { StandsStill (part pass.old) (part pass.new) }
     ensures quiet { SeesOthers (number pass.old) (seen pass.old) (seen pass.new) }
     ensures end { AfterEnd (part pass.old) (part pass.new) (seen pass.new) result }
+    ensures written { G.came gate.now (Point.PhaseOne job) }
+    ensures done { OnOk result (HasTold (G.came gate.now) job) }
 {
     let outcome = write_outside(alloc, out);
-    end_job(rt, alloc, lock, pass, outcome)
+    tell_written(gate, job);
+    let ended = end_job(rt, alloc, lock, pass, outcome);
+    tell_ended(gate, job, &ended);
+    ended
 }
 
 // How a call ended whose job went outside.
@@ -140,13 +152,14 @@ fn answer(ended: Result<(), MaintNo>) -> Result<Ran, MaintNo>
 }
 
 /// Runs a job for a want: a compaction in two visits, and the others in one. It waits until nothing is under way. For want of memory nothing is changed but that the rows in memory are frozen. A pass that has a job
-/// is answered as for want of memory.
-pub fn run_job<L: Disk, D: Disk + Drop, C: Clock, R: Wait>(
+/// is answered as for want of memory. The gate is called at the points of the job, outside the lock.
+pub fn run_job<L: Disk, D: Disk + Drop, C: Clock, R: Wait, G: Gate>(
     rt: &R,
     alloc: Global,
     lock: &SeatLock<Engine<L, D, C>>,
     pass: &mut Pass<Engine<L, D, C>>,
     want: &Want,
+    gate: &G,
 ) -> Result<Ran, MaintNo>
     requires enters { MayEnter lock.now pass.old }
     requires home { HasNoDevice (part pass.old) }
@@ -154,26 +167,34 @@ pub fn run_job<L: Disk, D: Disk + Drop, C: Clock, R: Wait>(
     ensures still { StandsStill (part pass.old) (part pass.new) }
     ensures quiet { SeesOthers (number pass.old) (seen pass.old) (seen pass.new) }
     ensures call { AfterCall want.now (part pass.old) (part pass.new) (seen pass.new) result }
+    ensures points { result ≡ Ok Ran.Done → (job : ℕ) × HasTold (G.came gate.now) job }
 {
     'tries: for _ in rt.forever() {
-        match try_job(rt, alloc, lock, pass, want) {
-            Start::Over(Turn::Done) => return Ok(Ran::Done),
+        let mut job = 0;
+        match try_job(rt, alloc, lock, pass, want, &mut job) {
+            Start::Over(Turn::Done) => {
+                tell_done(gate, job);
+                return Ok(Ran::Done);
+            }
             Start::Over(Turn::Nothing) => return Ok(Ran::Nothing),
             Start::Over(Turn::Stopped) => return Err(MaintNo::Stopped),
             Start::Over(Turn::Memory) => return Err(MaintNo::Memory),
             Start::Over(Turn::Wait) => lock.rest(rt, pass),
-            Start::Out(out) => return answer(end_outside(rt, alloc, lock, pass, out)),
+            Start::Out(out) => {
+                return answer(end_outside(rt, alloc, lock, pass, out, job, gate));
+            }
         }
     }
     unreachable!()
 }
 
 /// Freezes the rows in memory and writes all that are frozen as disk rowsets.
-pub fn run_flush<L: Disk, D: Disk + Drop, C: Clock, R: Wait>(
+pub fn run_flush<L: Disk, D: Disk + Drop, C: Clock, R: Wait, G: Gate>(
     rt: &R,
     alloc: Global,
     lock: &SeatLock<Engine<L, D, C>>,
     pass: &mut Pass<Engine<L, D, C>>,
+    gate: &G,
 ) -> Result<Ran, MaintNo>
     requires enters { MayEnter lock.now pass.old }
     requires home { HasNoDevice (part pass.old) }
@@ -181,17 +202,19 @@ pub fn run_flush<L: Disk, D: Disk + Drop, C: Clock, R: Wait>(
     ensures still { StandsStill (part pass.old) (part pass.new) }
     ensures quiet { SeesOthers (number pass.old) (seen pass.old) (seen pass.new) }
     ensures call { AfterCall want.Flush (part pass.old) (part pass.new) (seen pass.new) result }
+    ensures points { result ≡ Ok Ran.Done → (job : ℕ) × HasTold (G.came gate.now) job }
 {
-    run_job(rt, alloc, lock, pass, &Want::Flush)
+    run_job(rt, alloc, lock, pass, &Want::Flush, gate)
 }
 
 /// Writes the changes that are in memory of a disk rowset as a REDO file of it. Its other files stay.
-pub fn run_dms_flush<L: Disk, D: Disk + Drop, C: Clock, R: Wait>(
+pub fn run_dms_flush<L: Disk, D: Disk + Drop, C: Clock, R: Wait, G: Gate>(
     rt: &R,
     alloc: Global,
     lock: &SeatLock<Engine<L, D, C>>,
     pass: &mut Pass<Engine<L, D, C>>,
     rowset: u64,
+    gate: &G,
 ) -> Result<Ran, MaintNo>
     requires enters { MayEnter lock.now pass.old }
     requires home { HasNoDevice (part pass.old) }
@@ -199,17 +222,19 @@ pub fn run_dms_flush<L: Disk, D: Disk + Drop, C: Clock, R: Wait>(
     ensures still { StandsStill (part pass.old) (part pass.new) }
     ensures quiet { SeesOthers (number pass.old) (seen pass.old) (seen pass.new) }
     ensures call { AfterCall (want.FlushDeltas rowset) (part pass.old) (part pass.new) (seen pass.new) result }
+    ensures points { result ≡ Ok Ran.Done → (job : ℕ) × HasTold (G.came gate.now) job }
 {
-    run_job(rt, alloc, lock, pass, &Want::FlushDeltas(rowset))
+    run_job(rt, alloc, lock, pass, &Want::FlushDeltas(rowset), gate)
 }
 
 /// Makes one REDO file of all changes of a disk rowset, those in memory too. Its base and UNDO files stay.
-pub fn run_minor<L: Disk, D: Disk + Drop, C: Clock, R: Wait>(
+pub fn run_minor<L: Disk, D: Disk + Drop, C: Clock, R: Wait, G: Gate>(
     rt: &R,
     alloc: Global,
     lock: &SeatLock<Engine<L, D, C>>,
     pass: &mut Pass<Engine<L, D, C>>,
     rowset: u64,
+    gate: &G,
 ) -> Result<Ran, MaintNo>
     requires enters { MayEnter lock.now pass.old }
     requires home { HasNoDevice (part pass.old) }
@@ -217,18 +242,20 @@ pub fn run_minor<L: Disk, D: Disk + Drop, C: Clock, R: Wait>(
     ensures still { StandsStill (part pass.old) (part pass.new) }
     ensures quiet { SeesOthers (number pass.old) (seen pass.old) (seen pass.new) }
     ensures call { AfterCall (want.Minor rowset) (part pass.old) (part pass.new) (seen pass.new) result }
+    ensures points { result ≡ Ok Ran.Done → (job : ℕ) × HasTold (G.came gate.now) job }
 {
-    run_job(rt, alloc, lock, pass, &Want::Minor(rowset))
+    run_job(rt, alloc, lock, pass, &Want::Minor(rowset), gate)
 }
 
 /// Folds all changes of a disk rowset into its base rows, those in memory too, so that at most one REDO file is left, of deletes. Its UNDO files
 /// stay, and one more at most is written.
-pub fn run_major<L: Disk, D: Disk + Drop, C: Clock, R: Wait>(
+pub fn run_major<L: Disk, D: Disk + Drop, C: Clock, R: Wait, G: Gate>(
     rt: &R,
     alloc: Global,
     lock: &SeatLock<Engine<L, D, C>>,
     pass: &mut Pass<Engine<L, D, C>>,
     rowset: u64,
+    gate: &G,
 ) -> Result<Ran, MaintNo>
     requires enters { MayEnter lock.now pass.old }
     requires home { HasNoDevice (part pass.old) }
@@ -236,17 +263,19 @@ pub fn run_major<L: Disk, D: Disk + Drop, C: Clock, R: Wait>(
     ensures still { StandsStill (part pass.old) (part pass.new) }
     ensures quiet { SeesOthers (number pass.old) (seen pass.old) (seen pass.new) }
     ensures call { AfterCall (want.Major rowset) (part pass.old) (part pass.new) (seen pass.new) result }
+    ensures points { result ≡ Ok Ran.Done → (job : ℕ) × HasTold (G.came gate.now) job }
 {
-    run_job(rt, alloc, lock, pass, &Want::Major(rowset))
+    run_job(rt, alloc, lock, pass, &Want::Major(rowset), gate)
 }
 
 /// Merges disk rowsets into new ones, with all changes of them in memory, and joins the histories of each key. It takes memory for a copy of the list.
-pub fn run_compact<L: Disk, D: Disk + Drop, C: Clock, R: Wait>(
+pub fn run_compact<L: Disk, D: Disk + Drop, C: Clock, R: Wait, G: Gate>(
     rt: &R,
     alloc: Global,
     lock: &SeatLock<Engine<L, D, C>>,
     pass: &mut Pass<Engine<L, D, C>>,
     rowsets: &IdList,
+    gate: &G,
 ) -> Result<Ran, MaintNo>
     requires enters { MayEnter lock.now pass.old }
     requires home { HasNoDevice (part pass.old) }
@@ -254,9 +283,10 @@ pub fn run_compact<L: Disk, D: Disk + Drop, C: Clock, R: Wait>(
     ensures still { StandsStill (part pass.old) (part pass.new) }
     ensures quiet { SeesOthers (number pass.old) (seen pass.old) (seen pass.new) }
     ensures call { AfterCall (want.Compact rowsets.now) (part pass.old) (part pass.new) (seen pass.new) result }
+    ensures points { result ≡ Ok Ran.Done → (job : ℕ) × HasTold (G.came gate.now) job }
 {
     let Ok(rowsets) = copy_ids(alloc, rowsets) else {
         return Err(MaintNo::Memory);
     };
-    run_job(rt, alloc, lock, pass, &Want::Compact(rowsets))
+    run_job(rt, alloc, lock, pass, &Want::Compact(rowsets), gate)
 }

@@ -1,19 +1,21 @@
 //! Background workers: each picks a job and runs it, in the visit in which it picked it or, a compaction, in that one and one more, and rests where there is none.
-ghost use Rattle.std.specs.Prelude.{◌≡◌, ◌≢◌, ◌⊎◌, false, IfOk};
+ghost use Rattle.std.specs.Prelude.{◌≡◌, ◌≢◌, ◌⊎◌, ℕ, false, true, IfOk};
 ghost use Rattle.kt_seatlock.specs.Passes.{number, seen, part, MayEnter, IsBack, IsPassOf, IsOutside, IsSame};
 ghost use Rattle.kt_engine.specs.Calls.{SeesOthers, HasNoDevice, StandsStill};
 ghost use Rattle.kt_engine.specs.Visits.{IsVisit};
-ghost use Rattle.kt_maint.specs.Calls.{HasAway};
+ghost use Rattle.kt_maint.specs.Calls.{HasAway, HasNoJob, LeavesNoJob, has_stop};
+ghost use Rattle.kt_maint.specs.Points.{HasTold};
 ghost use Rattle.kt_maint.specs.declared.jobs.Start.TheVariants as start;
 ghost use Rattle.kt_maint.specs.Runs.{HasNoDevice as PassHasNone, StandsAs};
-ghost use Rattle.kt_maint.specs.Work.{Picks, TookAs};
+ghost use Rattle.kt_maint.specs.Work.{LeftNone, Picks, TookAs};
 
 use crate::jobs::{Start, start_now};
 use crate::outside::Outside;
+use crate::points::tell_done;
 use crate::run::end_outside;
 use crate::tries::Turn;
 use kt_base::{Clock, NoMemory};
-use kt_disk::Disk;
+use kt_disk::{Disk, Gate};
 use kt_engine::{Engine, Pulse, Stats};
 use kt_pick::Want;
 use kt_seatlock::{Pass, SeatLock};
@@ -145,6 +147,7 @@ fn run_found<L: Disk, D: Disk + Drop, C: Clock>(
     ensures visit { IsVisit by engine.old engine.new }
     ensures still { StandsAs by engine.old engine.new }
     ensures took { TookAs D.tells D.seen by engine.new result }
+    ensures none { LeftNone by engine.old engine.new result }
     ensures tried { (result ≢ start.Over Step.Busy) × (result ≢ start.Over Step.Idle) }
 {
     match start_now(alloc, engine, by, want) {
@@ -170,6 +173,7 @@ fn turn<L: Disk, D: Disk + Drop, C: Clock>(
     ensures visit { IsVisit by engine.old engine.new }
     ensures still { StandsAs by engine.old engine.new }
     ensures took { TookAs D.tells D.seen by engine.new result }
+    ensures none { LeftNone by engine.old engine.new result }
     ensures same { (result ≡ start.Over Step.Busy) ⊎ (result ≡ start.Over Step.Idle) → engine.new ≡ engine.old }
 {
     if engine.over() || engine.is_stopped() {
@@ -189,6 +193,16 @@ fn turn<L: Disk, D: Disk + Drop, C: Clock>(
     match want {
         Some(want) => run_found(alloc, engine, by, &want, watch),
         None => Start::Over(Step::Idle),
+    }
+}
+
+// Calls the gate at the points of a job that was run in the visit of a turn.
+fn tell<G: Gate>(gate: &G, job: u32, step: Step)
+    ensures { step ≡ Step.Worked → HasTold (G.came gate.now) job }
+{
+    match step {
+        Step::Worked => tell_done(gate, job),
+        Step::Tried | Step::Busy | Step::Idle | Step::Over => {}
     }
 }
 
@@ -214,13 +228,15 @@ fn wait<L: Disk, D: Disk + Drop, C: Clock, R: Wait>(
     }
 }
 
-// The rest of a job that went outside.
-fn finish<L: Disk, D: Disk + Drop, C: Clock, R: Wait>(
+// The rest of the job of this number, which went outside.
+fn finish<L: Disk, D: Disk + Drop, C: Clock, R: Wait, G: Gate>(
     rt: &R,
     alloc: Global,
     lock: &SeatLock<Engine<L, D, C>>,
     pass: &mut Pass<Engine<L, D, C>>,
     out: Outside<D>,
+    job: u32,
+    gate: &G,
 ) -> Step
     requires enters { MayEnter lock.now pass.old }
     requires away { HasAway D.tells D.seen (number pass.old) out (part pass.old) }
@@ -228,20 +244,23 @@ fn finish<L: Disk, D: Disk + Drop, C: Clock, R: Wait>(
     ensures still { StandsStill (part pass.old) (part pass.new) }
     ensures quiet { SeesOthers (number pass.old) (seen pass.old) (seen pass.new) }
     ensures home { HasNoDevice (part pass.new) }
+    ensures none { HasNoJob (part pass.new) ⊎ (has_stop (seen pass.new) ≡ true) }
+    ensures points { result ≡ Step.Worked → HasTold (G.came gate.now) job }
 {
-    match end_outside(rt, alloc, lock, pass, out) {
+    match end_outside(rt, alloc, lock, pass, out, job, gate) {
         Ok(()) => Step::Worked,
         Err(_) => Step::Over,
     }
 }
 
 // One visit of a worker, and a rest behind it where it ran no job, or the rest of a compaction. Where it changed nothing it wakes nobody who rests.
-fn take_step<L: Disk, D: Disk + Drop, C: Clock, R: Wait>(
+fn take_step<L: Disk, D: Disk + Drop, C: Clock, R: Wait, G: Gate>(
     rt: &R,
     alloc: Global,
     lock: &SeatLock<Engine<L, D, C>>,
     pass: &mut Pass<Engine<L, D, C>>,
     watch: &mut Option<Watch>,
+    gate: &G,
 ) -> Step
     requires enters { MayEnter lock.now pass.old }
     requires home { HasNoDevice (part pass.old) }
@@ -249,28 +268,35 @@ fn take_step<L: Disk, D: Disk + Drop, C: Clock, R: Wait>(
     ensures still { StandsStill (part pass.old) (part pass.new) }
     ensures quiet { SeesOthers (number pass.old) (seen pass.old) (seen pass.new) }
     ensures home { HasNoDevice (part pass.new) }
+    ensures none { LeavesNoJob (part pass.old) (part pass.new) (seen pass.new) }
+    ensures points { result ≡ Step.Worked → (job : ℕ) × HasTold (G.came gate.now) job }
 {
     let by = pass.number();
     let mut engine = lock.enter(rt, pass);
     let took = turn(alloc, &mut engine, by, watch);
+    let job = engine.pulse().begun;
+    // Its lines tell whether the tablet has stopped.
+    engine.standing();
     lock.leave_as(pass, engine, changes(&took));
     match took {
         Start::Over(step) => {
+            tell(gate, job, step);
             wait(rt, lock, pass, step);
             step
         }
-        Start::Out(out) => finish(rt, alloc, lock, pass, out),
+        Start::Out(out) => finish(rt, alloc, lock, pass, out, job, gate),
     }
 }
 
 /// A worker: it picks a job and runs it, and rests where there is none. It looks again only where a rule may apply since the last look that
 /// found nothing, and no sooner than after a millisecond. It ends once no session runs any more, where the tablet is stopped, after 1,048,576 jobs, or where
-/// picking or a job meets want of memory.
-pub fn work<L: Disk, D: Disk + Drop, C: Clock, R: Wait>(
+/// picking or a job meets want of memory. The gate is called at the points of each job, outside the lock.
+pub fn work<L: Disk, D: Disk + Drop, C: Clock, R: Wait, G: Gate>(
     rt: &R,
     alloc: Global,
     lock: &SeatLock<Engine<L, D, C>>,
     pass: &mut Pass<Engine<L, D, C>>,
+    gate: &G,
 )
     requires enters { MayEnter lock.now pass.old }
     requires home { HasNoDevice (part pass.old) }
@@ -278,11 +304,12 @@ pub fn work<L: Disk, D: Disk + Drop, C: Clock, R: Wait>(
     ensures still { StandsStill (part pass.old) (part pass.new) }
     ensures quiet { SeesOthers (number pass.old) (seen pass.old) (seen pass.new) }
     ensures home { HasNoDevice (part pass.new) }
+    ensures none { LeavesNoJob (part pass.old) (part pass.new) (seen pass.new) }
 {
     let mut watch = None;
     let mut jobs: u32 = 0;
     'steps: for _ in rt.forever() {
-        let step = take_step(rt, alloc, lock, pass, &mut watch);
+        let step = take_step(rt, alloc, lock, pass, &mut watch, gate);
         if step == Step::Worked {
             jobs = jobs.saturating_add(1);
         }

@@ -3,7 +3,7 @@ use Rattle.kt_seatlock.specs.Passes.{number, seen, part}
 use Rattle.kt_engine.specs.Calls.{SeesOthers, HasNoDevice, StandsStill}
 use Rattle.kt_maint.specs.Calls.{AfterCall, HasAway, SameUpkeep}
 use Rattle.kt_maint.specs.declared.tries.Turn.TheVariants as turn
-use Rattle.kt_maint.proofs.Between.{call_ended, call_since, has_away, memory_since, turn_at}
+use Rattle.kt_maint.proofs.Between.{call_ended, call_since, has_away, memory_since, told_ran, turn_at}
 use Rattle.kt_maint.proofs.Calling.{still_itself, still_then, same_then, done_then, nothing_then, sees_itself, sees_then}
 use Rattle.kt_maint.proofs.run.run_job.Goals as goal
 
@@ -81,3 +81,11 @@ tries-preserved g c =
       subst (SameUpkeep (part c.args.pass.now)) (sym here) (same_then (part c.args.pass.now) (part c.tries.pass) (part c.try_job.new.pass) c.tries.invariant.3 waits.0),
       subst (SeesOthers (number c.args.pass.now) (seen c.args.pass.now)) (sym sees) (sees_then (number c.args.pass.now) (seen c.args.pass.now) (seen c.tries.pass) (seen c.try_job.new.pass) c.tries.invariant.4 quiet),
     )
+
+-- its points
+
+pub returns-in-Over-Done-clause-points : goal.returns-in-Over-Done-clause-points
+returns-in-Over-Done-clause-points g c = λ done. (c.try_job.new.job, c.tell_done.ensures)
+
+pub returns-in-Out-clause-points : goal.returns-in-Out-clause-points
+returns-in-Out-clause-points g c = λ done. (c.try_job.new.job, told_ran c.end_outside.result _ c.end_outside.ensures.done (sym c.answer.ensures ∙ done))

@@ -2,10 +2,10 @@ use Rattle.std.proofs.Common.{Some, sym, ap, subst, ◌∙◌}
 use Rattle.kt_seatlock.specs.Passes.{number, seen, part}
 use Rattle.kt_engine.specs.Calls.{SeesOthers, HasNoDevice, StandsStill}
 use Rattle.kt_engine.specs.Visits.{part_in}
-use Rattle.kt_maint.specs.Calls.{HasAway}
-use Rattle.kt_maint.specs.Work.{TookAs}
+use Rattle.kt_maint.specs.Calls.{HasAway, LeavesNoJob}
+use Rattle.kt_maint.specs.Work.{LeftNone, TookAs}
 use Rattle.kt_maint.specs.Runs.{AddsStop}
-use Rattle.kt_maint.proofs.Calling.{told_by, stands_still, no_device_told, still_then, sees_stop, sees_then}
+use Rattle.kt_maint.proofs.Calling.{told_by, left_told, stands_still, no_device_told, still_then, sees_stop, sees_then}
 use Rattle.kt_maint.proofs.work.take_step.Goals as goal
 
 pub leave_as-requires-clause-same : goal.leave_as-requires-clause-same
@@ -62,3 +62,26 @@ returns-in-Out-clause-quiet g c =
     let second = subst (λ k. SeesOthers k (seen c.leave_as.new.pass) (seen c.finish.new.pass)) (c.leave_as.ensures.pass.0.1 ∙ c.enter-engine.ensures.pass.0.1) c.finish.ensures.quiet in
     sees_then n (seen c.args.pass.now) (seen c.leave_as.new.pass) (seen c.finish.new.pass)
     (sees_stop n (seen c.args.pass.now) x.tablet.core.trail (seen c.leave_as.new.pass) c.enter-engine.ensures.trail (subst (AddsStop x.tablet.core.trail) (sym c.leave_as.ensures.told.0) c.turn-took.ensures.still.line)) second
+
+-- no job is left
+
+pub returns-in-Over-clause-none : goal.returns-in-Over-clause-none
+returns-in-Over-clause-none g c =
+    let x = c.enter-engine.result in
+    let y = c.turn-took.new.engine in
+    let by = c.number-by.result in
+    let was = told_by (part c.args.pass.now) x (number c.args.pass.now) by c.enter-engine.ensures.part.0 (sym c.number-by.ensures) in
+    let is = told_by (part c.leave_as.new.pass) y (number c.leave_as.new.pass) by c.leave_as.ensures.told.1 (c.leave_as.ensures.pass.0.1 ∙ c.enter-engine.ensures.pass.0.1 ∙ sym c.number-by.ensures) in
+    let left = left_told (part c.args.pass.now) x by was c.requires.home (part c.leave_as.new.pass) y is c.turn-took.ensures.visit c.in-Over.step (seen c.leave_as.new.pass) c.standing.ensures.stops c.leave_as.ensures.told.0 (subst (LeftNone by x y) c.in-Over.is c.turn-took.ensures.none) in
+    subst (λ told. LeavesNoJob (part c.args.pass.now) told (seen c.wait.new.pass)) (sym (ap (λ m. m.0.part) c.wait.ensures.2)) (subst (LeavesNoJob (part c.args.pass.now) (part c.leave_as.new.pass)) (sym (ap (λ m. m.0.seen) c.wait.ensures.2)) left)
+
+pub returns-in-Out-clause-none : goal.returns-in-Out-clause-none
+returns-in-Out-clause-none g c = λ none. c.finish.ensures.none
+
+-- the points of its job
+
+pub returns-in-Over-clause-points : goal.returns-in-Over-clause-points
+returns-in-Over-clause-points g c = λ worked. (c.pulse-job.result.begun, c.tell.ensures worked)
+
+pub returns-in-Out-clause-points : goal.returns-in-Out-clause-points
+returns-in-Out-clause-points g c = λ worked. (c.pulse-job.result.begun, c.finish.ensures.points worked)

@@ -1,0 +1,36 @@
+//! The points of a job, at which the gate of a run is called.
+ghost use Rattle.std.specs.Prelude.{OnOk};
+ghost use Rattle.kt_maint.specs.Points.{HasTold};
+
+use kt_disk::{Gate, Point};
+use kt_engine::MaintNo;
+
+/// What the job does outside the lock is over: its outputs are written, unless that failed.
+pub fn tell_written<G: Gate>(gate: &G, job: u32)
+    ensures { G.came gate.now (Point.PhaseOne job) }
+{
+    gate.at(Point::PhaseOne { job });
+}
+
+/// The last visit of the job is over: where it is done, its outputs stand in the place of its inputs, and its superblock is published.
+pub fn tell_ended<G: Gate>(gate: &G, job: u32, ended: &Result<(), MaintNo>)
+    ensures swapped { OnOk ended.now (G.came gate.now (Point.Swapped job)) }
+    ensures published { OnOk ended.now (G.came gate.now (Point.Published job)) }
+{
+    match ended {
+        Ok(()) => {
+            gate.at(Point::Swapped { job });
+            gate.at(Point::Published { job });
+        }
+        Err(_) => {}
+    }
+}
+
+/// The job is done, in one visit: its points are told behind that visit.
+pub fn tell_done<G: Gate>(gate: &G, job: u32)
+    ensures { HasTold (G.came gate.now) job }
+{
+    gate.at(Point::PhaseOne { job });
+    gate.at(Point::Swapped { job });
+    gate.at(Point::Published { job });
+}
