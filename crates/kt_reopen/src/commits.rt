@@ -7,25 +7,24 @@ ghost use Rattle.kt_loglaws.specs.Replay.{commit_of};
 ghost use Rattle.kt_reopen.specs.Commits.{commit_at, HasPlaces};
 
 use kt_base::NoMemory;
+use kt_journal::Waiting;
 use kt_records::{CommitRow, LogRecords, RecordRef};
 use std::alloc::Global;
-use std::collections::BTreeMap;
 
-/// Where the COMMIT of each write stands, by the place of its REPLICATE. The log is gone through from its end, so that at a
-/// time few COMMITs wait for their REPLICATE.
+/// Where the COMMIT of each write stands, by the place of its REPLICATE.
 pub fn commit_places(alloc: Global, records: &LogRecords) -> Result<Vec<Option<usize>>, NoMemory>
     requires { IsLog records.now }
     ensures { IfOk result (λ places. HasPlaces records.now places.items) }
 {
     let mut places = vec![in alloc; None; records.len()]?;
-    let mut waiting = BTreeMap::new(alloc);
-    let mut at = records.len();
-    'records: while at > 0 {
-        at -= 1;
+    let mut waiting = Waiting::new(alloc);
+    'records: for at in 0..records.len() {
         match records.at(at) {
-            RecordRef::Replicate { ts, ops: _ } => places[at] = waiting.remove(&ts),
+            RecordRef::Replicate { ts, ops: _ } => waiting.add(ts, at)?,
             RecordRef::Commit { ts, rows: _ } => {
-                waiting.insert(ts, at)?;
+                if let Some(write) = waiting.take(ts) {
+                    places[write] = Some(at);
+                }
             }
         }
     }
