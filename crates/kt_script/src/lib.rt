@@ -47,7 +47,7 @@ pub mod writes;
 
 pub use head::{Table, read_table};
 pub use lists::{KindList, ReplyList, ReplyLists, ShownReply};
-pub use output::{LastLine, print_output, print_row};
+pub use output::{LastLine, print_end, print_output, print_reply, print_row, print_session_line};
 pub use print::print_script;
 pub use refusal::ScriptNo;
 pub use replies::{LineList, ReplyLine, ReplyLineList, ReplyLines};

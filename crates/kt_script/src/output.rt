@@ -1,9 +1,10 @@
 //! The output of a run: the replies of each session, the history and the last line.
 
-ghost use Rattle.std.specs.Prelude.{◌≡◌, ◌+◌, ◌<◌, ◌≤◌, ◌++◌, ◌∷◌, [], OnOk, OnErr, length, map, codes};
+ghost use Rattle.std.specs.Prelude.{◌≡◌, ◌+◌, ◌<◌, ◌≤◌, ◌++◌, ◌∷◌, [], List, OnOk, OnErr, length, map, codes};
 ghost use Rattle.std.specs.List.{flat_map};
 ghost use Rattle.std.specs.Fmt.{decimal};
-ghost use Rattle.kt_script.specs.Texts.{line, words, row_text, outcome_word, line_words, lines_text, told_session, told_sessions, event_line, last_text, seen, output_text};
+ghost use Rattle.kt_base.specs.declared.cell.Kind.{Kind};
+ghost use Rattle.kt_script.specs.Texts.{line, words, row_text, outcome_word, line_words, lines_text, session_line, told_session, told_sessions, event_line, last_text, seen, seen_of, output_text};
 
 use crate::lists::{ReplyLists, ShownReply};
 use crate::number::write_numbers;
@@ -148,10 +149,10 @@ fn print_at(ts: u64, outcomes: &[Outcome], out: &mut Octets) -> Result<(), NoMem
 }
 
 // The first line of a reply.
-fn print_first(shown: &ShownReply, out: &mut Octets) -> Result<(), NoMemory>
-    ensures ok { OnOk result (out.new ≡ out.old ++ line (words (line_words (seen shown.now)))) }
+fn print_first(reply: &Reply, out: &mut Octets) -> Result<(), NoMemory>
+    ensures ok { (kinds : List Kind) → OnOk result (out.new ≡ out.old ++ line (words (line_words (seen_of kinds reply.now)))) }
 {
-    match &shown.reply {
+    match reply {
         Reply::At { ts, outcomes } => print_at(*ts, outcomes.as_slice(), out),
         Reply::Rows { t, rows } => print_line(b"rows", &[*t, rows.len() as u64], out),
         Reply::Ancient { t, a } => print_line(b"ancient", &[*t, *a], out),
@@ -163,12 +164,13 @@ fn print_first(shown: &ShownReply, out: &mut Octets) -> Result<(), NoMemory>
     }
 }
 
-fn print_reply(shown: &ShownReply, out: &mut Octets) -> Result<(), NoMemory>
-    ensures ok { OnOk result (out.new ≡ out.old ++ lines_text (seen shown.now)) }
+/// Appends the lines of a reply, its rows under columns of these kinds. Without memory a part of them may stand at the end.
+pub fn print_reply(kinds: &[Kind], reply: &Reply, out: &mut Octets) -> Result<(), NoMemory>
+    ensures ok { OnOk result (out.new ≡ out.old ++ lines_text (seen_of kinds.now reply.now)) }
 {
-    print_first(shown, out)?;
-    match &shown.reply {
-        Reply::Rows { rows, .. } => print_rows(shown.kinds.as_slice(), rows, out),
+    print_first(reply, out)?;
+    match reply {
+        Reply::Rows { rows, .. } => print_rows(kinds, rows, out),
         _ => Ok(()),
     }
 }
@@ -177,15 +179,22 @@ fn print_replies(replies: &[ShownReply], out: &mut Octets) -> Result<(), NoMemor
     ensures ok { OnOk result (out.new ≡ out.old ++ flat_map lines_text (map seen replies.now)) }
 {
     for reply in replies {
-        print_reply(reply, out)?;
+        print_reply(reply.kinds.as_slice(), &reply.reply, out)?;
     }
     Ok(())
+}
+
+/// Appends the line before the replies of the session of this number. Without memory a part of it may stand at the end.
+pub fn print_session_line(number: u64, out: &mut Octets) -> Result<(), NoMemory>
+    ensures ok { OnOk result (out.new ≡ out.old ++ line (session_line number)) }
+{
+    print_line(b"session", &[number], out)
 }
 
 fn print_session(number: u64, replies: &[ShownReply], out: &mut Octets) -> Result<(), NoMemory>
     ensures ok { OnOk result (out.new ≡ out.old ++ told_session number (map seen replies.now)) }
 {
-    print_line(b"session", &[number], out)?;
+    print_session_line(number, out)?;
     print_replies(replies, out)
 }
 
@@ -198,6 +207,16 @@ fn print_sessions(sessions: &ReplyLists, out: &mut Octets) -> Result<(), NoMemor
     Ok(())
 }
 
+/// Appends what stands behind the replies of all sessions: the history and the last line. Without memory a part of it may
+/// stand at the end.
+pub fn print_end(events: &EventList, last: &LastLine, out: &mut Octets) -> Result<(), NoMemory>
+    ensures ok { OnOk result (out.new ≡ out.old ++ (line (codes "history") ++ flat_map event_line events.now ++ last_text last.now)) }
+{
+    out.extend(b"history\n")?;
+    print_events(events.as_slice(), out)?;
+    print_last(last, out)
+}
+
 fn print_all(
     sessions: &ReplyLists,
     events: &EventList,
@@ -207,9 +226,7 @@ fn print_all(
     ensures ok { OnOk result (out.new ≡ out.old ++ output_text sessions.now events.now last.now) }
 {
     print_sessions(sessions, out)?;
-    out.extend(b"history\n")?;
-    print_events(events.as_slice(), out)?;
-    print_last(last, out)
+    print_end(events, last, out)
 }
 
 // Prints into an empty text, which is empty again where memory runs out.
