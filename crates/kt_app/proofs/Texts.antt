@@ -1,15 +1,18 @@
 -- The replies of each session beside its commands.
-use Rattle.std.proofs.Common.{◌≡◌, ℕ, suc, ◌+◌, ◌<◌, ◌≤◌, List, [], ◌∷◌, ◌++◌, Option, Some, None, refl, sym, ap, ◌∙◌, arith, add-one, subst, length, get_or, drop, take, drop-cons, append_assoc}
+use Rattle.std.proofs.Common.{◌≡◌, ℕ, suc, ◌+◌, ◌<◌, ◌≤◌, List, [], ◌∷◌, ◌++◌, Option, Some, None, refl, sym, ap, ◌∙◌, arith, add-one, subst, length, map, get_or, drop, take, drop-cons, append_assoc}
 use mathlib.Core.List.{append-nil}
+use Rattle.std.specs.List.{flat_map}
 use Rattle.std.specs.Prelude.{slice_get, unwrap_or, MatchOption, All}
 use Rattle.std.proofs.Math.Seq.{take-suc}
 use Rattle.std.proofs.lemmas.List.{drop_all}
-use Rattle.std.proofs.lemmas.List.Elements.{All-push}
+use Rattle.std.proofs.lemmas.List.Elements.{All-push, All-cons}
+use Rattle.kt_base.specs.declared.cell.Kind.{Kind}
 use Rattle.kt_history.specs.declared.command.Command.{Command}
 use Rattle.kt_history.specs.declared.reply.Reply.{Reply}
 use Rattle.kt_history.specs.declared.reply.Reply.TheVariants as reply
 use Rattle.kt_history.specs.Machine.{Workload, nth}
 use Rattle.kt_script.specs.declared.lists.ShownReply.{ShownReply}
+use Rattle.kt_script.specs.Texts.{lines_text, told_session, told_sessions, seen, seen_of}
 use Rattle.kt_app.specs.Headline.{kinds_shown, shown_from, all_shown}
 use Rattle.kt_app.specs.Played.{reply_in, given}
 
@@ -85,29 +88,64 @@ one_first_list None (x ∷ old) new n m is_n is_m h = absurd (omega (arith, is_n
 dropped : {A : Type 0} (xs : List A) (k : ℕ) (x : A) → k < length xs → x ≡ get_or xs k x → drop k xs ≡ x ∷ drop (k + 1) xs
 dropped xs k x below is = drop-cons xs k x below ∙ (λ t. sym is t ∷ drop (sym (add-one k) t) xs)
 
-pub zipped_step : (work : Workload) (commands : List Command) (k : ℕ) (c : Command) (old new : List Reply) (o : Option Reply) (n m : ℕ) (v : ShownReply) (shown after total : List ShownReply) → k < length commands → c ≡ get_or commands k c
-    → n ≡ length old → m ≡ length new → MatchOption o ((n ≡ 0) × (m ≡ 0)) (λ x. (old ≡ x ∷ new) × (m + 1 ≡ n))
-    → v.kinds ≡ kinds_shown work c → v.reply ≡ unwrap_or o reply.Stopped → after ≡ shown ++ v ∷ [] → shown ++ zipped work (drop k commands) old ≡ total → after ++ zipped work (drop (k + 1) commands) new ≡ total
-zipped_step work commands k c old new o n m v shown after total below is is_n is_m cases kinds its pushed h =
-    let step = one_first o old new n m is_n is_m cases in
-    let reply_is = its ∙ step.0 in
-    ap (λ l. l ++ zipped work (drop (k + 1) commands) new) pushed
-    ∙ append_assoc shown (v ∷ []) (zipped work (drop (k + 1) commands) new)
-    ∙ (λ t. shown ++ record { kinds = kinds t; reply = reply_is t } ∷ zipped work (drop (k + 1) commands) (sym step.1 t))
-    ∙ ap (λ l. shown ++ zipped work l old) (sym (dropped commands k c below is))
-    ∙ h
+-- ---- what is printed of them
 
-pub zipped_all_step : (work : Workload) (plan : List (List Command)) (k : ℕ) (c cs : List Command) (old new : List (List Reply)) (o : Option (List Reply)) (rs : List Reply) (n m : ℕ) (v : List ShownReply) (shown after total : List (List ShownReply)) → k < length plan → c ≡ get_or plan k c
-    → n ≡ length old → m ≡ length new → MatchOption o ((n ≡ 0) × (m ≡ 0)) (λ x. (old ≡ x ∷ new) × (m + 1 ≡ n))
-    → cs ≡ c → rs ≡ unwrap_or o [] → v ≡ shown_from work (reply_in (Some rs)) 1 cs → after ≡ shown ++ v ∷ [] → shown ++ zipped_all work (drop k plan) old ≡ total → after ++ zipped_all work (drop (k + 1) plan) new ≡ total
-zipped_all_step work plan k c cs old new o rs n m v shown after total below is is_n is_m cases same its list pushed h =
-    let step = one_first_list o old new n m is_n is_m cases in
-    let first_is = list ∙ sym (session_is work cs rs) ∙ (λ t. zipped work (same t) ((its ∙ step.0) t)) in
-    ap (λ l. l ++ zipped_all work (drop (k + 1) plan) new) pushed
-    ∙ append_assoc shown (v ∷ []) (zipped_all work (drop (k + 1) plan) new)
-    ∙ (λ t. shown ++ first_is t ∷ zipped_all work (drop (k + 1) plan) (sym step.1 t))
-    ∙ ap (λ l. shown ++ zipped_all work l old) (sym (dropped plan k c below is))
-    ∙ h
+-- the lines of a session
+abbrev pub told : Workload → List Command → List Reply → List ℕ
+told work commands replies = flat_map lines_text (map seen (zipped work commands replies))
+
+-- and of all, numbered from this one on
+abbrev pub told_all : ℕ → Workload → List (List Command) → List (List Reply) → List ℕ
+told_all number work plan replies = told_sessions number (map (map seen) (zipped_all work plan replies))
+
+pub begun : (old head out rest : List ℕ) → out ≡ old ++ head → out ++ rest ≡ old ++ (head ++ rest)
+begun old head out rest is = ap (λ l. l ++ rest) is ∙ append_assoc old head rest
+
+module _ (work : Workload) (commands : List Command) (k : ℕ) (c : Command) (old new : List Reply) (o : Option Reply) (n m : ℕ) (kinds : List Kind) (r : Reply) (below : k < length commands) (is : c ≡ get_or commands k c)
+    (is_n : n ≡ length old) (is_m : m ≡ length new) (cases : MatchOption o ((n ≡ 0) × (m ≡ 0)) (λ x. (old ≡ x ∷ new) × (m + 1 ≡ n))) (kinds_are : kinds ≡ kinds_shown work c) (its : r ≡ unwrap_or o reply.Stopped) where
+  first_shown : zipped work (drop k commands) old ≡ record { kinds = kinds; reply = r } ∷ zipped work (drop (k + 1) commands) new
+  first_shown =
+      let step = one_first o old new n m is_n is_m cases in
+      let reply_is = its ∙ step.0 in
+      ap (λ l. zipped work l old) (dropped commands k c below is) ∙ (λ t. record { kinds = sym kinds_are t; reply = sym reply_is t } ∷ zipped work (drop (k + 1) commands) (step.1 t))
+
+  pub told_step : (out after total : List ℕ) → after ≡ out ++ lines_text (seen_of kinds r) → out ++ told work (drop k commands) old ≡ total → after ++ told work (drop (k + 1) commands) new ≡ total
+  told_step out after total printed h =
+      ap (λ l. l ++ told work (drop (k + 1) commands) new) printed ∙ append_assoc out (lines_text (seen_of kinds r)) (told work (drop (k + 1) commands) new)
+      ∙ ap (λ (l : List ShownReply). out ++ flat_map lines_text (map seen l)) (sym first_shown) ∙ h
+
+  pub fits_step : (P : ShownReply → Type 0) → P (record { kinds = kinds; reply = r }) → All P (zipped work (drop (k + 1) commands) new) → All P (zipped work (drop k commands) old)
+  fits_step P one rest = subst (All P) (sym first_shown) (All-cons P (record { kinds = kinds; reply = r }) (zipped work (drop (k + 1) commands) new) one rest)
+
+pub fits_end : (P : ShownReply → Type 0) (work : Workload) (commands : List Command) (k : ℕ) (rest : List Reply) → length commands ≤ k → All P (zipped work (drop k commands) rest)
+fits_end P work commands k rest end = subst (λ (l : List Command). All P (zipped work l rest)) (sym (drop_all k commands end)) (λ i d lt. absurd (omega arith))
+
+module _ (work : Workload) (plan : List (List Command)) (k : ℕ) (c cs : List Command) (old new : List (List Reply)) (o : Option (List Reply)) (rs : List Reply) (n m : ℕ) (below : k < length plan) (is : c ≡ get_or plan k c)
+    (is_n : n ≡ length old) (is_m : m ≡ length new) (cases : MatchOption o ((n ≡ 0) × (m ≡ 0)) (λ x. (old ≡ x ∷ new) × (m + 1 ≡ n))) (same : cs ≡ c) (its : rs ≡ unwrap_or o []) where
+  first_session : zipped_all work (drop k plan) old ≡ shown_from work (reply_in (Some rs)) 1 cs ∷ zipped_all work (drop (k + 1) plan) new
+  first_session =
+      let step = one_first_list o old new n m is_n is_m cases in
+      let first_is = sym (session_is work cs rs) ∙ (λ t. zipped work (same t) ((its ∙ step.0) t)) in
+      ap (λ l. zipped_all work l old) (dropped plan k c below is) ∙ (λ t. sym first_is t ∷ zipped_all work (drop (k + 1) plan) (step.1 t))
+
+  pub told_all_step : (out after total : List ℕ) → after ≡ out ++ told_session (k + 1) (map seen (shown_from work (reply_in (Some rs)) 1 cs)) → out ++ told_all (k + 1) work (drop k plan) old ≡ total → after ++ told_all (k + 1 + 1) work (drop (k + 1) plan) new ≡ total
+  told_all_step out after total printed h =
+      let session : List ℕ = told_session (k + 1) (map seen (shown_from work (reply_in (Some rs)) 1 cs)) in
+      let next : k + 1 + 1 ≡ suc (k + 1) = omega arith in
+      ap (λ l. l ++ told_all (k + 1 + 1) work (drop (k + 1) plan) new) printed ∙ append_assoc out session (told_all (k + 1 + 1) work (drop (k + 1) plan) new)
+      ∙ ap (λ (i : ℕ). out ++ (session ++ told_all i work (drop (k + 1) plan) new)) next
+      ∙ ap (λ (l : List (List ShownReply)). out ++ told_sessions (k + 1) (map (map seen) l)) (sym first_session) ∙ h
+
+  pub all_fit_step : (P : List ShownReply → Type 0) → P (shown_from work (reply_in (Some rs)) 1 cs) → All P (zipped_all work (drop (k + 1) plan) new) → All P (zipped_all work (drop k plan) old)
+  all_fit_step P one rest = subst (All P) (sym first_session) (All-cons P (shown_from work (reply_in (Some rs)) 1 cs) (zipped_all work (drop (k + 1) plan) new) one rest)
+
+pub all_fit_end : (P : List ShownReply → Type 0) (work : Workload) (plan : List (List Command)) (k : ℕ) (rest : List (List Reply)) → length plan ≤ k → All P (zipped_all work (drop k plan) rest)
+all_fit_end P work plan k rest end = subst (λ (l : List (List Command)). All P (zipped_all work l rest)) (sym (drop_all k plan end)) (λ i d lt. absurd (omega arith))
+
+-- a list of replies for each session
+pub count_shown : (work : Workload) (f : ℕ → ℕ → Option Reply) (s : ℕ) (plan : List (List Command)) → length (all_shown work f s plan) ≡ length plan
+count_shown work f s [] = refl
+count_shown work f s (commands ∷ plan) = ap (λ n. suc n) (count_shown work f (s + 1) plan)
 
 pub all_shown_now : {A B : Type 0} (f : List A → List B) (none : f [] ≡ []) (xs : List A) (k : ℕ) (shown total : List B) → length xs ≤ k → shown ++ f (drop k xs) ≡ total → shown ≡ total
 all_shown_now f none xs k shown total all h = sym (append-nil shown) ∙ ap (λ l. shown ++ l) (sym (ap f (drop_all k xs all) ∙ none)) ∙ h

@@ -1,7 +1,7 @@
 //! The output text of a run.
-ghost use Rattle.std.specs.Prelude.{◌≡◌, List, IfOk, All, Some};
+ghost use Rattle.std.specs.Prelude.{◌≡◌, ◌++◌, List, IfOk, OnOk, All, Some, map};
 ghost use Rattle.kt_base.specs.declared.cell.Kind.{Kind};
-ghost use Rattle.kt_script.specs.Texts.{output_text, reply_numbers, seen_of};
+ghost use Rattle.kt_script.specs.Texts.{output_text, told_session, told_sessions, seen, reply_numbers, seen_of};
 ghost use Rattle.kt_script.specs.Laws.{Fits64, Fits32, short_of_reply, EventFits, ReplyFits, OutputFits};
 ghost use Rattle.kt_app.specs.Headline.{kinds_shown as kinds_printed, shown_from, all_shown};
 ghost use Rattle.kt_app.specs.Session.{on_table};
@@ -11,7 +11,7 @@ use crate::kinds::kinds_shown;
 use kt_base::{NoMemory, Octets};
 use kt_history::{Command, Event, EventList, Reply, Session};
 use kt_schema::Schema;
-use kt_script::{KindList, LastLine, ReplyList, ReplyLists, ShownReply, print_output};
+use kt_script::{KindList, LastLine, print_end, print_reply, print_session_line};
 use kt_serve::SessionReplies;
 use std::alloc::Global;
 
@@ -106,44 +106,53 @@ fn kinds_of(alloc: Global, schema: &Schema, command: &Command) -> Result<KindLis
     }
 }
 
-// What is printed for each command of a session: its reply, and stopped where it has none.
-fn shown_session(
+// Prints the replies of a session, one for each command: stopped where it has none.
+fn put_session(
     alloc: Global,
     schema: &Schema,
+    number: u64,
     commands: &[Command],
     replies: SessionReplies,
-) -> Result<ReplyList, NoMemory>
-    ensures shown { IfOk result (λ list. list ≡ shown_from (on_table schema.now) (reply_in (Some replies)) 1 commands.now) }
-    ensures fit { IfOk result (λ list. All ReplyFits list) }
+    out: &mut Octets,
+) -> Result<(), NoMemory>
+    ensures text { OnOk result (out.new ≡ out.old ++ told_session number (map seen (shown_from (on_table schema.now) (reply_in (Some replies)) 1 commands.now))) }
+    ensures fit { OnOk result (All ReplyFits (shown_from (on_table schema.now) (reply_in (Some replies)) 1 commands.now)) }
 {
+    print_session_line(number, out)?;
     let mut rest = replies.into_vec().into_iter();
-    let mut shown = Vec::with_capacity(alloc, commands.len())?;
     for command in commands {
         let reply = rest.next().unwrap_or(Reply::Stopped);
         reply_fits(&reply);
         let kinds = kinds_of(alloc, schema, command)?;
-        shown.push(ShownReply { kinds, reply })?;
+        print_reply(kinds.as_slice(), &reply, out)?;
     }
-    Ok(ReplyList::of(shown))
+    Ok(())
 }
 
-// The same for each session.
-fn shown_all(
+// The same of each session.
+fn put_sessions(
     alloc: Global,
     schema: &Schema,
     plan: &[Session],
     replies: Vec<SessionReplies>,
-) -> Result<ReplyLists, NoMemory>
-    ensures shown { IfOk result (λ lists. lists ≡ all_shown (on_table schema.now) (given replies.items) 1 plan.now) }
-    ensures fit { IfOk result (λ lists. All (All ReplyFits) lists) }
+    out: &mut Octets,
+) -> Result<(), NoMemory>
+    ensures text { OnOk result (out.new ≡ out.old ++ told_sessions 1 (map (map seen) (all_shown (on_table schema.now) (given replies.items) 1 plan.now))) }
+    ensures fit { OnOk result (All (All ReplyFits) (all_shown (on_table schema.now) (given replies.items) 1 plan.now)) }
 {
     let mut rest = replies.into_iter();
-    let mut shown = Vec::with_capacity(alloc, plan.len())?;
-    for session in plan {
+    for (at, session) in plan.iter().enumerate() {
         let replies = rest.next().unwrap_or(SessionReplies::none(alloc));
-        shown.push(shown_session(alloc, schema, session.as_slice(), replies)?)?;
+        put_session(
+            alloc,
+            schema,
+            at as u64 + 1,
+            session.as_slice(),
+            replies,
+            out,
+        )?;
     }
-    Ok(ReplyLists::of(shown))
+    Ok(())
 }
 
 /// How a run ended: whether a device fault stopped it, its mark, its last timestamp, and the disk rowsets of its superblock.
@@ -170,19 +179,6 @@ fn last_line(end: &RunEnd) -> LastLine
     }
 }
 
-fn text_of(
-    alloc: Global,
-    sessions: &ReplyLists,
-    trail: &EventList,
-    last: &LastLine,
-) -> Result<Octets, NoMemory>
-    ensures { IfOk result (λ text. text ≡ output_text sessions.now trail.now last.now) }
-{
-    let mut out = Octets::new(alloc);
-    print_output(alloc, sessions, trail, last, &mut out)?;
-    Ok(out)
-}
-
 /// The output of a run with these replies, this history and this end.
 pub fn output_of(
     alloc: Global,
@@ -196,10 +192,11 @@ pub fn output_of(
     ensures text { IfOk result (λ out. out.text ≡ output_text (all_shown (on_table schema.now) (given replies.items) 1 plan.now) trail.now (end_of_run end.now.stopped end.now.a end.now.c end.now.rowsets)) }
     ensures fits { IfOk result (λ out. OutputFits (all_shown (on_table schema.now) (given replies.items) 1 plan.now) trail.now (end_of_run end.now.stopped end.now.a end.now.c end.now.rowsets)) }
 {
-    let sessions = shown_all(alloc, schema, plan, replies)?;
-    let _count = sessions.as_slice().len();
+    let _count = plan.len();
+    let mut text = Octets::new(alloc);
+    put_sessions(alloc, schema, plan, replies, &mut text)?;
     events_fit(trail.as_slice());
-    let text = text_of(alloc, &sessions, trail, &last_line(end))?;
+    print_end(trail, &last_line(end), &mut text)?;
     Ok(Output {
         stopped: end.stopped,
         text,
