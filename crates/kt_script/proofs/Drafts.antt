@@ -1,7 +1,8 @@
 -- Operations that are added behind others leave the commands of those as they were.
-use Rattle.std.proofs.Common.{◌≡◌, ℕ, zero, suc, ◌+◌, ◌-◌, ◌≤◌, List, [], ◌∷◌, ◌++◌, length, take, drop, map, get_or, refl, sym, ap, ◌∙◌, arith}
+use Rattle.std.proofs.Common.{◌≡◌, ℕ, zero, suc, ◌+◌, ◌-◌, ◌≤◌, List, [], ◌∷◌, ◌++◌, length, take, drop, map, get_or, Result, Ok, Err, refl, sym, ap, ◌∙◌, arith}
+use Rattle.std.specs.Prelude.{OnErr}
 use Rattle.std.specs.List.{between, All}
-use Rattle.std.proofs.lemmas.List.{length-take, map_push, append_assoc, drop_at, take_all}
+use Rattle.std.proofs.lemmas.List.{length-take, map_push, append_assoc, drop_at, take_all, take-append-le}
 use Rattle.std.proofs.lemmas.List.Elements.{All-head, All-tail, All-push}
 use Rattle.std.proofs.lemmas.Slice.{between_is}
 use Rattle.kt_history.specs.declared.command.Command.{Command}
@@ -10,6 +11,10 @@ use Rattle.kt_history.specs.declared.operation.RowOp.{RowOp}
 use Rattle.kt_script.specs.declared.draft.Entry.{Entry}
 use Rattle.kt_script.specs.declared.draft.Entry.TheVariants.{Few, Other}
 use Rattle.kt_script.specs.Drafts.{command_in, IsInside}
+
+pub on_err : {A E : Type 0} (r : Result A E) {P : Type 0} → P → OnErr r P
+on_err (Ok x) p = tt
+on_err (Err e) p = p
 
 take_within : {X : Type 0} (n m : ℕ) (xs : List X) → n ≤ m → take n (take m xs) ≡ take n xs
 take_within zero m xs le = refl
@@ -61,6 +66,14 @@ pub added_are : (old more : List RowOp) (first len : ℕ) → first ≡ length o
 added_are old more first len at size =
     let n : first + len - first ≡ len = omega arith in
     rw (n, drop_at old more first (sym at)) (take_all len more (omega (arith, size)))
+
+-- the operations before one that is added
+pub front_of : (old new : List RowOp) (o : RowOp) → new ≡ old ++ o ∷ [] → take (length old) new ≡ old
+front_of old new o is = ap (take (length old)) is ∙ (take-append-le (length old) old (o ∷ []) (omega arith) ∙ take_all (length old) old (omega arith))
+
+-- a write of that one
+pub lone_is : (old new : List RowOp) (o : RowOp) (first : ℕ) → first ≡ length old → new ≡ old ++ o ∷ [] → command_in new (Few (record { first = first; len = 1 })) ≡ command.Write (record { ops = o ∷ [] })
+lone_is old new o first at is = ap (λ (ops : List RowOp). command.Write (record { ops = ops })) (ap (between first (first + 1)) is ∙ added_are old (o ∷ []) first 1 at refl)
 
 -- the first entry of those left goes over to the commands
 pub moved_over : (ops : List RowOp) (done done' all : List Command) (e : Entry) (es es' : List Entry) (c : Command) → es ≡ e ∷ es' → c ≡ command_in ops e → done' ≡ done ++ c ∷ [] → done ++ map (command_in ops) es ≡ all → done' ++ map (command_in ops) es' ≡ all

@@ -1,5 +1,5 @@
 -- The first word of a line tells what the line begins, and is the one word of that.
-use Rattle.std.proofs.Common.{◌≡◌, ℕ, List, [], ◌∷◌, Option, Some, None, refl, subst}
+use Rattle.std.proofs.Common.{◌≡◌, ℕ, List, [], ◌∷◌, Option, Some, None, refl, subst, ap, ◌∙◌}
 use Rattle.std.specs.Prelude.{codes}
 use Rattle.std.specs.Option.{option_map, option_or}
 use Rattle.kt_base.specs.declared.chore.Chore.{Chore}
@@ -43,6 +43,10 @@ op_leads op.Delete = refl
 op_leads op.InsertIgnore = refl
 op_leads op.UpdateIgnore = refl
 op_leads op.DeleteIgnore = refl
+
+-- what is read as the word of an operation begins a write
+pub op_lead : (text : List ℕ) (k : OpKind) → op_kind text ≡ Some k → lead_in text ≡ Some (lead.Command (word.Op k))
+op_lead text k e = ap lead_in (kind_word op_word op_kinds text k e) ∙ op_leads k
 
 -- the word of a chore begins its line, and is a word
 pub chore_leads : (c : Chore) → lead_in (chore_word c) ≡ Some (lead.Command (word.Chore c))

@@ -1,6 +1,6 @@
 -- What the words of operations say, a word at a time.
-use Rattle.std.proofs.Common.{◌≡◌, ℕ, suc, ◌+◌, ◌<◌, ◌≤◌, add-one, drop, drop-cons, get_or, min, Bool, true, false, ◌||◌, List, [], ◌∷◌, ◌++◌, length, map, inl, inr, refl, sym, ap, ◌∙◌, arith, append_assoc}
-use Rattle.std.specs.Prelude.{◌⊎◌, if◌then◌else◌, nat_lt, codes}
+use Rattle.std.proofs.Common.{◌≡◌, ℕ, Bor, Option, Some, None, suc, ◌+◌, ◌<◌, ◌≤◌, add-one, drop, drop-cons, get_or, min, Bool, true, false, ◌||◌, List, [], ◌∷◌, ◌++◌, length, map, inl, inr, refl, sym, ap, ◌∙◌, arith, append_assoc}
+use Rattle.std.specs.Prelude.{◌⊎◌, is_some, if◌then◌else◌, nat_lt, codes}
 use Rattle.std.specs.List.{list_any, onto_first}
 use Rattle.std.proofs.lemmas.Bool.{cases_lt}
 use Rattle.std.proofs.lemmas.Bool.Decides.{nat_tests}
@@ -10,7 +10,7 @@ use Rattle.kt_schema.specs.declared.column.Column.{Column}
 use Rattle.kt_history.specs.declared.operation.OpKind.{OpKind}
 use Rattle.kt_history.specs.declared.operation.RowOp.{RowOp}
 use Rattle.kt_script.specs.Reasons.{sound, reason_if}
-use Rattle.kt_script.specs.Writes.{name_in, left_out_no, must_be_named, all_named_no, twice, op_no, op_of, op_key, ops_no, many_no, write_no, key_of, ops_of, first_op, later_ops}
+use Rattle.kt_script.specs.Writes.{name_in, left_out_no, must_be_named, all_named_no, twice, op_no, op_of, op_key, ops_no, many_no, write_no, key_of, ops_of, ops_in, first_op, later_ops}
 use Rattle.kt_script.proofs.Selections.{any_map}
 
 -- the first operation and those behind it
@@ -88,6 +88,25 @@ ops_end columns n kept few = by (limit 64 (kept + 0) 18)
     by : ((64 < kept + 0) × (many_no kept [] ≡ 18)) ⊎ ((kept + 0 ≤ 64) × (many_no kept [] ≡ sound)) → min n (min sound (many_no kept [])) ≡ min n sound
     by (inl p) = absurd (omega arith)
     by (inr p) = omega (arith, p.1)
+
+-- nothing is left behind an operation
+pub none_in : (left : Option (Option (Bor (List ℕ)))) → is_some left ≡ false → ops_in left ≡ []
+none_in None e = refl
+none_in (Some rest) e = absurd cc
+
+-- an operation that is alone
+pub lone_ops : (columns : List Column) (words : List (List ℕ)) (left : List (List (List ℕ))) (kept all : List RowOp) (o : RowOp) → left ≡ ops_of words → [] ≡ later_ops words → o ≡ op_of columns (first_op words) → kept ≡ []
+    → kept ++ map (op_of columns) left ≡ all → o ∷ [] ≡ all
+lone_ops columns words left kept all o begins is first none so =
+    ops_more columns words left [] [] (o ∷ []) all o begins is first refl (ap (λ (xs : List RowOp). xs ++ map (op_of columns) left) (sym none) ∙ so)
+
+pub lone_least : (columns : List Column) (words : List (List ℕ)) (left : List (List (List ℕ))) (kept : List RowOp) (n a b m : ℕ) → left ≡ ops_of words → [] ≡ later_ops words → kept ≡ [] → a ≡ min n (op_no columns (first_op words))
+    → b ≡ min a sound → min n (min (ops_no columns left) (many_no (length kept) left)) ≡ m → b ≡ m
+lone_least columns words left kept n a b m begins is none la lb so =
+    let step = least_op columns words [] 0 1 n a b is (omega arith) la lb (λ h. refl) in
+    let same : b ≡ min b sound = omega (arith, lb) in
+    same ∙ (sym (ops_end columns b 1 (omega arith)) ∙ (step ∙ (ap (λ ops. min n (min (ops_no columns ops) (many_no 0 ops))) (sym begins)
+    ∙ (ap (λ k. min n (min (ops_no columns left) (many_no k left))) (sym (ap length none)) ∙ so))))
 
 pub keys_same : (columns : List Column) (ops : List (List (List ℕ))) → map (λ (o : RowOp). o.key) (map (op_of columns) ops) ≡ map (op_key columns) ops
 keys_same columns [] = refl

@@ -20,7 +20,7 @@ use Rattle.kt_script.specs.declared.leads.Word.{Word}
 use Rattle.kt_script.specs.declared.leads.Word.TheVariants as word
 use Rattle.kt_script.specs.declared.leads.Lead.{Lead}
 use Rattle.kt_script.specs.declared.leads.Lead.TheVariants as lead
-use Rattle.kt_script.specs.Reasons.{sound, reason_if, Reads}
+use Rattle.kt_script.specs.Reasons.{sound, reason_if}
 use Rattle.kt_script.specs.Columns.{begins_column, column_no, columns_with, keys_no, IsTable}
 use Rattle.kt_script.specs.Writes.{write_no, write_of}
 use Rattle.kt_script.specs.Times.{mark_no, mark_of}
@@ -199,10 +199,6 @@ load_of text = load_in (above_end start (cut 10 text))
 -- the run of what a script says, over a pool of so many cells
 abbrev pub workload : ℕ → Said → Workload
 workload cells s = record { plan = s.plan; cells = cells; keys = map (λ c. (c.id, c.kind)) (key_columns s.columns); others = map (λ c. (c.id, c.kind)) (other_columns s.columns); fill = fill_of s.columns }
-
--- the command of a line, or its reason
-abbrev pub ReadsCommand : List Column → Word → List (List ℕ) → Result Command LineNo → Type 0
-ReadsCommand columns w words result = Reads (command_no columns w words) (command_of columns w words) result
 
 -- a line of a session is read: the sessions with what it says, or its reason
 abbrev pub ReadsLed : {A : Type 0} → List Column → List (List Command) → Option Lead → List (List ℕ) → List (List Command) → Result A LineNo → Type 0

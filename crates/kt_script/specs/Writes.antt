@@ -1,5 +1,5 @@
 -- Write lines: what a line says of its operations, and why it is refused.
-use Rattle.std.specs.Prelude.{◌≡◌, ◌<◌, Result, Ok, Err, ℕ, ◌+◌, min, Bool, true, false, not, ◌&&◌, ◌||◌, List, [], ◌∷◌, ◌++◌, length, drop, map, Option, Some, None, is_some, if◌then◌else◌, ◌==◌, nat_lt, codes}
+use Rattle.std.specs.Prelude.{◌≡◌, ℕ, ◌+◌, min, Bool, true, false, not, ◌&&◌, ◌||◌, List, [], ◌∷◌, ◌++◌, length, drop, map, Option, Some, None, is_some, if◌then◌else◌, ◌==◌, nat_lt, codes}
 use Rattle.std.proofs.Common.{Bor}
 use Rattle.std.specs.List.{list_any, before_first, onto_first}
 use Rattle.std.specs.Ordering.{nat_cmp}
@@ -17,8 +17,6 @@ use Rattle.kt_history.specs.declared.operation.RowOp.{RowOp}
 use Rattle.kt_history.specs.declared.operation.Write.{Write}
 use Rattle.kt_script.specs.declared.forms.OpForm.{OpForm}
 use Rattle.kt_script.specs.declared.forms.OpForm.TheVariants as form
-use Rattle.kt_script.specs.declared.columns.LineNo.{LineNo}
-use Rattle.kt_script.specs.declared.columns.LineNo.TheVariants as line
 use Rattle.kt_script.specs.Pieces.{words_in}
 use Rattle.kt_script.specs.Kinds.{kind_in}
 use Rattle.kt_script.specs.Reasons.{sound, reason_if, cell_no, cell_value, form_no}
@@ -276,9 +274,3 @@ op_said columns kind form words = record { kind = kind; key = key_of columns wor
 -- too many operations, with so many before them
 abbrev pub many_no : ℕ → List (List (List ℕ)) → ℕ
 many_no kept ops = reason_if (nat_lt 64 (kept + length ops)) 18
-
--- the operations of a write line, or its reason
-abbrev pub ReadsWrite : List Column → List (List ℕ) → Result Write LineNo → Type 0
-ReadsWrite columns words (Ok w) = (write_no columns words ≡ sound) × (w.ops ≡ write_of columns words)
-ReadsWrite columns words (Err (line.Reason r)) = (write_no columns words ≡ r) × (r < sound)
-ReadsWrite columns words (Err line.Memory) = Unit {0}

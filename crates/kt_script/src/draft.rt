@@ -7,7 +7,7 @@ ghost use Rattle.kt_history.specs.declared.operation.RowOp.{RowOp};
 ghost use Rattle.kt_script.specs.Drafts.{command_in, IsInside};
 
 use kt_base::NoMemory;
-use kt_history::{Command, OpList, Session, Write};
+use kt_history::{Command, OpList, OpRef, Session, Write};
 use std::alloc::Global;
 use std::collections::VecDeque;
 use std::marker::Model;
@@ -188,6 +188,17 @@ impl Draft {
     {
         let entry = entry_of(self.alloc, &mut self.ops, command, spare)?;
         self.entries.push_back(entry)?;
+        Ok(())
+    }
+
+    /// A write of one operation more. Without memory nothing is added.
+    pub(crate) fn push_lone(&mut self, op: &OpRef<'_>) -> Result<(), NoMemory>
+        ensures ok { OnOk result (self.new ≡ self.old ++ command.Write (record { ops = op.now ∷ [] }) ∷ []) }
+        ensures err { OnErr result (self.new ≡ self.old) }
+    {
+        let first = self.ops.len();
+        self.ops.push(op)?;
+        self.entries.push_back(Entry::Few(Part { first, len: 1 }))?;
         Ok(())
     }
 

@@ -77,10 +77,13 @@ fn command_in(text: &[u8]) -> Option<Word>
     }
 }
 
-/// What a line begins, by its first word.
+/// What a line begins, by its first word. Most lines are writes, so that their words are looked for first.
 pub fn lead_in(text: &[u8]) -> Option<Lead>
     ensures { result ≡ lead_in text.now }
 {
+    if let Some(kind) = op_kind(text) {
+        return Some(Lead::Command(Word::Op(kind)));
+    }
     if is_word(text, b"session") {
         return Some(Lead::Session);
     }

@@ -19,7 +19,7 @@ use crate::leads::{Lead, lead_in};
 use crate::refusal::ScriptNo;
 use crate::times::read_mark;
 use crate::word::{cut_word, is_word};
-use crate::writes::{SpelledOp, lone_write};
+use crate::writes::SpelledOp;
 use kt_base::{CellRef, Chore, Kind, NoMemory};
 use kt_cells::Tail;
 use kt_cells::writing::put_listed_cell;
@@ -200,7 +200,6 @@ fn load_chore(session: u64, at: u64) -> Chore
 
 // Adds a write of a session, for the number that is drawn for it.
 fn push_write(
-    alloc: Global,
     session: u64,
     number: u64,
     commands: &mut Draft,
@@ -211,13 +210,11 @@ fn push_write(
     ensures { OnOk result ((k : ℕ) → number ≡ drawn session k → commands.new ≡ commands.old ++ load_write session k ∷ []) }
 {
     spell_op(session, number >> 33, op)?;
-    let write = lone_write(alloc, op)?;
-    commands.push(write, &mut op.spare)
+    commands.push_lone(&op.read())
 }
 
 // Adds the k-th write of a session, and behind each 64th a chore.
 fn push_step(
-    alloc: Global,
     session: u64,
     k: u64,
     number: u64,
@@ -230,10 +227,10 @@ fn push_step(
     requires number { number ≡ drawn session k }
     ensures { OnOk result (commands.new ≡ commands.old ++ load_step session k) }
 {
-    push_write(alloc, session, number, commands, op)?;
+    push_write(session, number, commands, op)?;
     if k % 64 == 0 {
         let chore = load_chore(session, k / 64);
-        commands.push(Command::Chore(chore), &mut op.spare)?;
+        commands.push(Command::Chore(chore), &mut op.ops)?;
     }
     Ok(())
 }
@@ -254,7 +251,7 @@ fn load_session(
     let mut number = session;
     'writes: for k in 0..count as u64 {
         number = next_drawn(number);
-        push_step(alloc, session, k + 1, number, &mut commands, op)?;
+        push_step(session, k + 1, number, &mut commands, op)?;
     }
     commands.into_session()
 }

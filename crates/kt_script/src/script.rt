@@ -3,12 +3,15 @@
 ghost use Rattle.std.specs.Prelude.{◌≡◌, ◌≤◌, ◌+◌, ◌∷◌, [], length, ℕ, List, Some, IfOk, IfErr, IfSome, true, false};
 ghost use Rattle.std.specs.List.{list_any};
 ghost use Rattle.kt_schema.specs.declared.column.Column.{Column};
+ghost use Rattle.kt_history.specs.declared.command.Command.TheVariants as command;
 ghost use Rattle.kt_script.specs.declared.leads.Lead.TheVariants as lead;
 ghost use Rattle.kt_script.specs.declared.leads.Word.TheVariants as begins;
 ghost use Rattle.kt_script.specs.Pieces.{cut, words_of, words_in};
 ghost use Rattle.kt_script.specs.Reasons.{no_of};
 ghost use Rattle.kt_script.specs.Columns.{begins_column, IsTable};
-ghost use Rattle.kt_script.specs.Scripts.{full_no, is_begun, is_load, first_lead, begins_load, most_bytes, first_piece, script_of, load_of, ReadsCommand, ReadsLed, ReadsBody, IsPushed, IsFirstFault};
+ghost use Rattle.kt_script.specs.Scripts.{full_no, is_begun, is_load, first_lead, begins_load, most_bytes, first_piece, script_of, load_of, command_no, command_of, ReadsLed, ReadsBody, IsPushed, IsFirstFault};
+ghost use Rattle.kt_script.specs.declared.writes.SpelledOp.{SpelledOp};
+ghost use Rattle.kt_script.specs.Buffers.{line_command, IsLine, ReadsLine};
 ghost use Rattle.kt_script.specs.Loads.{IsLoad};
 ghost use Rattle.kt_script.specs.Fit.{PlanFits, IsBodyRead, AreLinesRead};
 
@@ -22,10 +25,10 @@ use crate::scans::read_scan;
 use crate::sessions::Sessions;
 use crate::times::read_mark;
 use crate::word::{cut_word, next_word};
-use crate::writes::{SpelledOp, read_write};
+use crate::writes::{LineCommand, SpelledOp, read_write};
 use kt_base::Chore;
 use kt_base::limits::{COMMANDS, SCRIPT_BYTES, SESSIONS};
-use kt_history::{Command, OpList, Plan};
+use kt_history::{Command, Plan};
 use kt_schema::Schema;
 use std::alloc::Global;
 
@@ -65,26 +68,35 @@ fn full_no(sessions: &Sessions) -> Option<u8>
     }
 }
 
-// Adds a command, if there may be one more. The list of a write is left for its room.
-fn push_command(sessions: &mut Sessions, command: Command, spare: &mut OpList) -> Result<(), LineNo>
-    requires { is_begun sessions.old ≡ true }
-    ensures { IsPushed sessions.old command sessions.new result }
+// Adds the command of a line, if there may be one more. The list of a write is left for its room.
+fn push_command(
+    sessions: &mut Sessions,
+    command: LineCommand,
+    op: &mut SpelledOp,
+) -> Result<(), LineNo>
+    requires begun { is_begun sessions.old ≡ true }
+    requires spelled { IsLine op.old command }
+    ensures { IsPushed sessions.old (line_command op.old command) sessions.new result }
 {
     if sessions.commands() >= COMMANDS {
         return Err(LineNo::Reason(20));
     }
-    match sessions.push(command, spare) {
+    let pushed = match command {
+        LineCommand::Lone => sessions.push_lone(&op.read()),
+        LineCommand::Held(command) => sessions.push(command, &mut op.ops),
+    };
+    match pushed {
         Ok(()) => Ok(()),
         Err(_) => Err(LineNo::Memory),
     }
 }
 
-fn read_chore(chore: Chore, rest: Option<&[u8]>) -> Result<Command, LineNo>
-    ensures { (columns : List Column) (first : List ℕ) → ReadsCommand columns (begins.Chore chore) (first ∷ words_in rest.entry) result }
+fn read_chore(chore: Chore, rest: Option<&[u8]>) -> Result<LineCommand, LineNo>
+    ensures { (columns : List Column) (first : List ℕ) (op : SpelledOp) → ReadsLine (command_no columns (begins.Chore chore) (first ∷ words_in rest.entry)) (command.Chore chore) op result }
 {
     match next_word(rest) {
         Some(_) => Err(LineNo::Reason(12)),
-        None => Ok(Command::Chore(chore)),
+        None => Ok(LineCommand::Held(Command::Chore(chore))),
     }
 }
 
@@ -96,15 +108,15 @@ fn read_command(
     first: &[u8],
     rest: Option<&[u8]>,
     op: &mut SpelledOp,
-) -> Result<Command, LineNo>
+) -> Result<LineCommand, LineNo>
     requires { IsTable schema.now }
-    ensures { ReadsCommand schema.now word (first.now ∷ words_in rest.entry) result }
+    ensures { ReadsLine (command_no schema.now word (first.now ∷ words_in rest.entry)) (command_of schema.now word (first.now ∷ words_in rest.entry)) op.new result }
 {
     match word {
-        Word::Scan => Ok(Command::Scan(read_scan(alloc, schema, rest)?)),
-        Word::Mark => Ok(Command::Mark(read_mark(rest)?)),
+        Word::Scan => Ok(LineCommand::Held(Command::Scan(read_scan(alloc, schema, rest)?))),
+        Word::Mark => Ok(LineCommand::Held(Command::Mark(read_mark(rest)?))),
         Word::Chore(chore) => read_chore(chore, rest),
-        Word::Op(_) => Ok(Command::Write(read_write(alloc, schema, Some((first, rest)), op)?)),
+        Word::Op(_) => read_write(alloc, schema, Some((first, rest)), op),
     }
 }
 
@@ -124,7 +136,7 @@ fn read_command_line(
         return Err(LineNo::Reason(11));
     }
     match read_command(alloc, schema, word, first, rest, op) {
-        Ok(command) => push_command(sessions, command, &mut op.spare),
+        Ok(command) => push_command(sessions, command, op),
         Err(LineNo::Reason(reason)) => { Err(LineNo::Reason(least_of(reason, full_no(sessions)))) }
         Err(LineNo::Memory) => Err(LineNo::Memory),
     }

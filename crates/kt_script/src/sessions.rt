@@ -1,11 +1,12 @@
 //! The commands of a script as they are read.
 
 ghost use Rattle.std.specs.Prelude.{◌≡◌, ◌<◌, ◌++◌, ◌∷◌, [], length, IfOk, OnOk, OnErr, true};
+ghost use Rattle.kt_history.specs.declared.command.Command.TheVariants as command;
 ghost use Rattle.kt_script.specs.Scripts.{most_commands, is_begun, commands_in, push_last};
 
 use crate::draft::Draft;
 use kt_base::NoMemory;
-use kt_history::{Command, OpList, Plan, Session};
+use kt_history::{Command, OpList, OpRef, Plan, Session};
 use std::alloc::Global;
 use std::marker::Model;
 
@@ -99,6 +100,19 @@ impl Sessions {
             return Ok(());
         };
         last.push(command, spare)?;
+        Ok(())
+    }
+
+    /// A write of one operation more in the last session.
+    pub fn push_lone(&mut self, op: &OpRef<'_>) -> Result<(), NoMemory>
+        requires begun { is_begun self.old ≡ true }
+        requires room { commands_in self.old < most_commands }
+        ensures { OnOk result (self.new ≡ push_last (command.Write (record { ops = op.now ∷ [] })) self.old) }
+    {
+        let Some(last) = &mut self.last else {
+            return Ok(());
+        };
+        last.push_lone(op)?;
         Ok(())
     }
 

@@ -13,8 +13,8 @@ ghost use Rattle.kt_schema.specs.Columns.{other_columns};
 ghost use Rattle.kt_script.specs.declared.forms.OpForm.TheVariants as form;
 ghost use Rattle.kt_script.specs.Columns.{IsTable};
 ghost use Rattle.kt_script.specs.Reasons.{no_of, reason_if};
-ghost use Rattle.kt_script.specs.Buffers.{Spells, HasSpelling, spelled_op};
-ghost use Rattle.kt_script.specs.Writes.{rest_no, rest_cells, behind_no, op_form, op_no, op_of, op_said, ops_of, ops_no, many_no, twice, first_op, later_ops, words_cut, ops_cut, op_in, later_in, ops_in, ReadsWrite};
+ghost use Rattle.kt_script.specs.Buffers.{Spells, HasSpelling, spelled_op, line_ops, line_command, IsLineRead, IsLine, ReadsLine};
+ghost use Rattle.kt_script.specs.Writes.{rest_no, rest_cells, behind_no, op_form, op_no, op_of, op_said, ops_of, ops_no, many_no, twice, first_op, later_ops, words_cut, ops_cut, op_in, later_in, ops_in, write_no, write_of};
 
 use crate::columns::LineNo;
 use crate::forms::{OpForm, op_form, op_kind};
@@ -34,14 +34,14 @@ use std::alloc::Global;
 use std::mem;
 
 /// An operation as bytes spell it, in buffers that are filled anew for each operation of a script: the cells of its key,
-/// the encoded key, and its other cells behind their count. Beside it a list whose room the operations of the next line take.
+/// the encoded key, and its other cells behind their count. Beside it the list of the operations of a line, which keeps its room.
 #[derive(Drop)]
 pub(crate) struct SpelledOp {
     pub(crate) kind: OpKind,
     key_cells: Vec<Cell>,
     pub(crate) key: Octets,
     pub(crate) cells: Tail,
-    pub(crate) spare: OpList,
+    pub(crate) ops: OpList,
 }
 
 impl SpelledOp {
@@ -52,9 +52,24 @@ impl SpelledOp {
             key_cells: Vec::new(alloc),
             key: Octets::new(alloc),
             cells: Tail::of(Octets::new(alloc)),
-            spare: OpList::new(alloc),
+            ops: OpList::new(alloc),
         }
     }
+
+    /// The operation that is in the buffers.
+    pub(crate) fn read(&self) -> OpRef<'_>
+        requires { HasSpelling self.now }
+        ensures { result ≡ spelled_op self.now }
+    {
+        OpRef::of(self.kind, self.key.as_slice(), self.cells.added())
+    }
+}
+
+/// The command of a line: a write of the one operation that is in the buffers, or a command that is held.
+#[derive(Drop)]
+pub(crate) enum LineCommand {
+    Lone,
+    Held(Command),
 }
 
 // Adds named cells behind their count, unless a reason holds for which they do not count.
@@ -161,6 +176,7 @@ fn read_behind<'a>(
     no: &mut Least,
 ) -> Result<Option<Option<&'a [u8]>>, NoMemory>
     requires { IsTable schema.now }
+    ensures list { op.new.ops ≡ op.old.ops }
     ensures op { OnOk result (17 < no.new → Spells op.new (op_said schema.now kind (op_form kind) (op_in rest.entry))) }
     ensures later { IfOk result (λ left. ops_in left ≡ later_in rest.entry) }
     ensures least { OnOk result (no.new ≡ min no.old (behind_no schema.now (op_form kind) (op_in rest.entry))) }
@@ -181,6 +197,7 @@ fn read_op<'a>(
     no: &mut Least,
 ) -> Result<Option<Option<&'a [u8]>>, NoMemory>
     requires { IsTable schema.now }
+    ensures list { op.new.ops ≡ op.old.ops }
     ensures op { OnOk result (17 < no.new → Spells op.new (op_of schema.now (first_op (words_cut cut.entry)))) }
     ensures later { IfOk result (λ left. ops_in left ≡ later_ops (words_cut cut.entry)) }
     ensures least { OnOk result (no.new ≡ min no.old (op_no schema.now (first_op (words_cut cut.entry)))) }
@@ -208,86 +225,56 @@ fn cut_ops(left: Option<Option<&[u8]>>) -> Option<Option<(&[u8], Option<&[u8]>)>
     }
 }
 
-// Adds an operation as it is spelled.
-fn push_op(ops: &mut OpList, op: &SpelledOp) -> Result<(), NoMemory>
-    requires { HasSpelling op.now }
-    ensures { OnOk result (ops.new ≡ ops.old ++ spelled_op op.now ∷ []) }
+// Adds the operation that is in the buffers to the list, if there is room for it. One that a reason up to 17 refuses is
+// not added.
+fn keep_op(op: &mut SpelledOp, no: &mut Least) -> Result<(), NoMemory>
+    requires held { length op.old.ops ≤ 64 }
+    requires fits { 17 < no.old → HasSpelling op.old }
+    ensures least { OnOk result (no.new ≡ min no.old (reason_if (nat_lt 63 (length op.old.ops)) 18)) }
+    ensures kept { OnOk result (18 < no.new → op.new.ops ≡ op.old.ops ++ spelled_op op.old ∷ []) }
+    ensures room { OnOk result (17 < no.new → length op.new.ops ≡ min 64 (length op.old.ops + 1)) }
+    ensures few { OnOk result (length op.new.ops ≤ 64) }
 {
-    ops.push(&OpRef::of(op.kind, op.key.as_slice(), op.cells.added()))
-}
-
-/// A write of the one operation that is in the buffers.
-pub(crate) fn lone_write(alloc: Global, op: &mut SpelledOp) -> Result<Command, NoMemory>
-    requires { HasSpelling op.old }
-    ensures { IfOk result (λ made. made ≡ command.Write (record { ops = spelled_op op.old ∷ [] })) }
-{
-    let mut ops = mem::replace(&mut op.spare, OpList::new(alloc));
-    ops.clear(alloc);
-    push_op(&mut ops, op)?;
-    Ok(Command::Write(Write { ops }))
-}
-
-// Keeps an operation, if there is room for it. One that a reason up to 17 refuses is not kept.
-fn keep_op(ops: &mut OpList, op: &SpelledOp, no: &mut Least) -> Result<(), NoMemory>
-    requires held { length ops.old ≤ 64 }
-    requires fits { 17 < no.old → HasSpelling op.now }
-    ensures least { OnOk result (no.new ≡ min no.old (reason_if (nat_lt 63 (length ops.old)) 18)) }
-    ensures kept { OnOk result (18 < no.new → ops.new ≡ ops.old ++ spelled_op op.now ∷ []) }
-    ensures room { OnOk result (17 < no.new → length ops.new ≡ min 64 (length ops.old + 1)) }
-    ensures few { OnOk result (length ops.new ≤ 64) }
-{
-    if ops.len() >= OPERATIONS {
+    if op.ops.len() >= OPERATIONS {
         no.note(Some(18));
         return Ok(());
     }
     no.note(None);
     if no.is_above(17) {
-        push_op(ops, op)
+        op.ops
+            .push(&OpRef::of(op.kind, op.key.as_slice(), op.cells.added()))
     } else {
         Ok(())
     }
 }
 
-// Adds the operations of a line that is cut behind its first word. They count only where no reason up to 18 holds.
+// Reads the operations of a line that is cut behind its first word into the list. One that is alone stays in the buffers,
+// which is told. They count only where no reason up to 18 holds.
 fn add_ops(
     alloc: Global,
     schema: &Schema,
     first: Option<(&[u8], Option<&[u8]>)>,
     op: &mut SpelledOp,
-    ops: &mut OpList,
     no: &mut Least,
-) -> Result<(), NoMemory>
+) -> Result<bool, NoMemory>
     requires table { IsTable schema.now }
-    requires none { ops.old ≡ [] }
-    ensures ops { OnOk result (18 < no.new → ops.new ≡ map (op_of schema.now) (ops_of (words_cut first.entry))) }
+    requires none { op.old.ops ≡ [] }
+    ensures spelled { IfOk result (λ lone. 17 < no.new → IsLineRead op.new lone) }
+    ensures ops { IfOk result (λ lone. 18 < no.new → line_ops op.new lone ≡ map (op_of schema.now) (ops_of (words_cut first.entry))) }
     ensures least { OnOk result (no.new ≡ min no.old (min (ops_no schema.now (ops_of (words_cut first.entry))) (many_no 0 (ops_of (words_cut first.entry))))) }
 {
     let mut left = Some(first);
     'ops: while let Some(cut) = left {
         let rest = read_op(alloc, schema, cut, op, no)?;
-        keep_op(ops, op, no)?;
+        if op.ops.is_empty() && rest.is_none() {
+            no.note(None);
+            return Ok(true);
+        }
+        keep_op(op, no)?;
         left = cut_ops(rest);
     }
     no.note(None);
-    Ok(())
-}
-
-// The operations of such a line. They count only where no reason up to 18 holds.
-fn read_ops(
-    alloc: Global,
-    schema: &Schema,
-    first: Option<(&[u8], Option<&[u8]>)>,
-    op: &mut SpelledOp,
-    no: &mut Least,
-) -> Result<OpList, NoMemory>
-    requires { IsTable schema.now }
-    ensures ops { IfOk result (λ ops. 18 < no.new → ops ≡ map (op_of schema.now) (ops_of (words_cut first.entry))) }
-    ensures least { IfOk result (λ ops. no.new ≡ min no.old (min (ops_no schema.now (ops_of (words_cut first.entry))) (many_no 0 (ops_of (words_cut first.entry))))) }
-{
-    let mut ops = mem::replace(&mut op.spare, OpList::new(alloc));
-    ops.clear(alloc);
-    add_ops(alloc, schema, first, op, &mut ops, no)?;
-    Ok(ops)
+    Ok(false)
 }
 
 // Whether an operation from a place on has this key.
@@ -359,23 +346,44 @@ fn twice_no(ops: &OpList) -> Option<u8>
     if is_twice(ops) { Some(19) } else { None }
 }
 
+// Why operations of a line are refused of which two have one key.
+fn line_twice_no(op: &SpelledOp, lone: bool) -> Option<u8>
+    ensures { no_of result ≡ reason_if (twice (map (λ (o : RowOp). o.key) (line_ops op.now lone))) 19 }
+{
+    if lone { None } else { twice_no(&op.ops) }
+}
+
+// Takes the command of a line out of the buffers and the list, where one operation alone is in the buffers.
+fn take_command(alloc: Global, op: &mut SpelledOp, lone: bool) -> LineCommand
+    requires { IsLineRead op.old lone }
+    ensures command { line_command op.new result ≡ command.Write (record { ops = line_ops op.old lone }) }
+    ensures spelled { IsLine op.new result }
+{
+    if lone {
+        return LineCommand::Lone;
+    }
+    let ops = mem::replace(&mut op.ops, OpList::new(alloc));
+    LineCommand::Held(Command::Write(Write { ops }))
+}
+
 /// The write of a line of a script, cut behind its first word. The buffers are for its operations.
 pub(crate) fn read_write(
     alloc: Global,
     schema: &Schema,
     first: Option<(&[u8], Option<&[u8]>)>,
     op: &mut SpelledOp,
-) -> Result<Write, LineNo>
+) -> Result<LineCommand, LineNo>
     requires { IsTable schema.now }
-    ensures { ReadsWrite schema.now (words_cut first.entry) result }
+    ensures { ReadsLine (write_no schema.now (words_cut first.entry)) (command.Write (record { ops = write_of schema.now (words_cut first.entry) })) op.new result }
 {
     let mut no = Least::none();
-    let Ok(ops) = read_ops(alloc, schema, first, op, &mut no) else {
+    op.ops.clear(alloc);
+    let Ok(lone) = add_ops(alloc, schema, first, op, &mut no) else {
         return Err(LineNo::Memory);
     };
-    no.note(twice_no(&ops));
+    no.note(line_twice_no(op, lone));
     match no.reason() {
         Some(reason) => Err(LineNo::Reason(reason)),
-        None => Ok(Write { ops }),
+        None => Ok(take_command(alloc, op, lone)),
     }
 }

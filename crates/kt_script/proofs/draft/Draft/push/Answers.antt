@@ -1,12 +1,7 @@
-use Rattle.std.proofs.Common.{Result, Ok, Err, map, ap, ◌∙◌}
-use Rattle.std.specs.Prelude.{OnErr}
+use Rattle.std.proofs.Common.{map, ap, ◌∙◌}
 use Rattle.kt_script.specs.Drafts.{command_in}
-use Rattle.kt_script.proofs.Drafts.{same_view, pushed_view}
+use Rattle.kt_script.proofs.Drafts.{on_err, same_view, pushed_view}
 use Rattle.kt_script.proofs.draft.Draft.push.Goals as goal
-
-on_err : {A E : Type 0} (r : Result A E) {P : Type 0} → P → OnErr r P
-on_err (Ok x) p = tt
-on_err (Err e) p = p
 
 pub returns-in_err-entry-clause-err : goal.returns-in_err-entry-clause-err
 returns-in_err-entry-clause-err c =
