@@ -20,5 +20,5 @@ pub mod Joining
 pub mod Open
 pub mod Maintained
 pub mod Rests
-pub mod Closing
+pub mod Ending
 mod Points

@@ -27,6 +27,13 @@ pub enum End {
     Memory,
 }
 
+/// The engine that a run leaves, and how the run ended.
+#[derive(Drop)]
+pub struct Closing<L: Disk, D: Disk, C: Clock> {
+    pub engine: Engine<L, D, C>,
+    pub end: End,
+}
+
 // Appends what was queued last, and takes the log home.
 fn append_last<L: Disk, D: Disk + Drop, C: Clock>(
     alloc: Global,
@@ -170,8 +177,8 @@ fn publish_last<L: Disk, D: Disk + Drop, C: Clock>(
     }
 }
 
-/// Makes all that is queued durable, as the pass of this number, publishes a superblock with the present mark and last timestamp, and tells how the run ends.
-pub fn finish<L: Disk, D: Disk + Drop, C: Clock>(
+// Makes all that is queued durable, as the pass of this number, publishes a superblock with the present mark and last timestamp, and tells how the run ends.
+pub(crate) fn finish<L: Disk, D: Disk + Drop, C: Clock>(
     alloc: Global,
     engine: &mut Engine<L, D, C>,
     number: u32,

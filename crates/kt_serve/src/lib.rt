@@ -16,7 +16,7 @@ mod tablet;
 mod visits;
 
 pub use chores::Chores;
-pub use close::End;
+pub use close::{Closing, End};
 pub use log::Halt;
 pub use replies::SessionReplies;
 pub use run::{Ran, run_sessions};

@@ -11,7 +11,7 @@ ghost use Rattle.kt_serve.specs.Closing.{EndsAs};
 ghost use Rattle.kt_serve.specs.Runs.{HasRunTo, PlaceHasRun, PlanRuns, AllEnded};
 
 use crate::chores::Chores;
-use crate::close::{End, finish};
+use crate::close::{Closing, End};
 use crate::log::Halt;
 use crate::places::{Place, join_all, split_all};
 use crate::session::{SessionEnd, run_session};
@@ -188,7 +188,7 @@ fn rooms<T: Shared>(
     ))
 }
 
-// Runs all sessions, and so many workers, over the engine in this lock, and gives what each session ended with, and the engine.
+// Runs all sessions, and so many workers, over the engine in this lock, and gives what each session ended with, and what the run leaves.
 fn run_locked<
     L: Disk + Send,
     D: Disk + Drop + Send,
@@ -207,17 +207,18 @@ fn run_locked<
     workers: u32,
     gate: &G,
     chores: &H,
-) -> Result<(Vec<SessionEnd>, Engine<L, D, C>), Engine<L, D, C>>
+) -> Result<(Vec<SessionEnd>, Closing<L, D, C>), Engine<L, D, C>>
     requires own { IsPassOf lock pass × IsVacant pass × (given pass ≡ 1) × (number pass ≡ 0) }
     requires passes { length plan.now + workers < passes_of lock }
     requires fresh { IsFresh engine }
     requires on { IsOn schema.now engine.tablet.core.work }
     requires plan { (engine.tablet.core.work.plan ≡ plan.now) × (engine.tablet.core.turns ≡ first_turns plan.now) }
     requires runs { PlanRuns plan.now }
-    ensures root { IfOk result (λ r. root_of r.1 ≡ root_of engine) }
-    ensures home { IfOk result (λ r. r.1.log.holder ≡ None) }
-    ensures store_home { IfOk result (λ r. r.1.store.holder ≡ None) }
-    ensures ended { IfOk result (λ r. AllEnded (CameTo G.came gate.now) (root_of engine) plan.now r.1.tablet.core.trail r.0.items) }
+    ensures root { IfOk result (λ r. root_of r.1.engine ≡ root_of engine) }
+    ensures home { IfOk result (λ r. r.1.engine.log.holder ≡ None) }
+    ensures store_home { IfOk result (λ r. r.1.engine.store.holder ≡ None) }
+    ensures ended { IfOk result (λ r. AllEnded (CameTo G.came gate.now) (root_of engine) plan.now r.1.engine.tablet.core.trail r.0.items) }
+    ensures ends { IfOk result (λ r. EndsAs r.1.engine r.1.end) }
     ensures back { IfErr result (λ e. e ≡ engine) }
 {
     let sessions = plan.len();
@@ -230,12 +231,10 @@ fn run_locked<
     split_all(alloc, &lock, &mut pass, count, &mut places);
     let tablet = SharedTablet::of(lock);
     run_all(rt, alloc, schema, &tablet, plan, gate, chores, &mut places);
-    let SharedTablet { lock } = tablet;
-    let mut ends = join_all(&lock, &mut pass, places, ends);
+    let mut ends = join_all(&tablet.lock, &mut pass, places, ends);
     ends.truncate(sessions);
-    let engine = lock.close(pass);
-    engine.standing();
-    Ok((ends, engine))
+    let closing = tablet.close(alloc, pass);
+    Ok((ends, closing))
 }
 
 /// What a run of all sessions leaves.
@@ -246,9 +245,6 @@ pub struct Ran<L: Disk, D: Disk, C: Clock> {
     pub end: End,
     pub engine: Engine<L, D, C>,
 }
-
-// The number of the pass that fills the lock and ends it.
-const LAST: u32 = 0;
 
 /// Runs the sessions of a plan at once over an engine in which nothing has happened yet, and so many workers beside them, each by a pass of its own in a
 /// thread of its own where one can be made, makes durable what then still waits for the log, and publishes a superblock. For every schedule, each
@@ -290,8 +286,8 @@ pub fn run_sessions<
     match run_locked(
         rt, alloc, schema, lock, pass, engine, plan, workers, gate, chores,
     ) {
-        Ok((ends, mut engine)) => {
-            let end = finish(alloc, &mut engine, LAST);
+        Ok((ends, closing)) => {
+            let Closing { engine, end } = closing;
             Ok(Ran { ends, end, engine })
         }
         Err(engine) => Err(engine),

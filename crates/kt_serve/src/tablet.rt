@@ -1,16 +1,21 @@
 //! A tablet that sessions share.
-ghost use Rattle.std.specs.Prelude.{◌≡◌, ◌≢◌, ◌<◌, ◌+◌, ◌^◌, ℕ, List, Ok, OnErr, IfOk, true};
+ghost use Rattle.std.specs.Prelude.{◌≡◌, ◌≢◌, ◌<◌, ◌+◌, ◌^◌, ℕ, List, None, Ok, OnErr, IfOk, true};
 ghost use Rattle.kt_history.specs.declared.change.Outcome.{Outcome};
 ghost use Rattle.kt_history.specs.declared.command.Command.{Command};
-ghost use Rattle.kt_seatlock.specs.Passes.{number, seen, part, MayEnter, IsBack};
+ghost use Rattle.kt_seatlock.specs.Passes.{number, seen, part, MayEnter, IsBack, IsPassOf, IsOutside, IsLastPass};
 ghost use Rattle.kt_base.specs.declared.chore.Chore.{Chore};
 ghost use Rattle.kt_engine.specs.Calls.{HasDone};
+ghost use Rattle.kt_engine.specs.Engines.{EngineView};
+ghost use Rattle.kt_engine.specs.Visits.{root_of};
+ghost use Rattle.kt_tablet.specs.Views.{IsSound};
 ghost use Rattle.kt_serve.specs.Answered.{IsAnswered};
+ghost use Rattle.kt_serve.specs.Closing.{IsTold, AreHome, MayHalt, EndsAs};
 ghost use Rattle.kt_serve.specs.Maintained.{StoreRests};
 ghost use Rattle.kt_serve.specs.Scans.{IsOn, LacksReply};
 ghost use Rattle.kt_serve.specs.Sessions.{IsFree, IsCommand, IsWrite, IsStill, IsGoing, SameRoot, OnRoot, HasNoLog, HasLeft, AfterCommand, CanRun, has_stop};
 
 use crate::chores::{Chores, run_chore};
+use crate::close::{Closing, finish};
 use crate::log::Halt;
 use crate::rows::{apply_rows, end_write};
 use crate::visits::{begin_write, mark_once};
@@ -149,6 +154,26 @@ impl<L: Disk, D: Disk + Drop, C: Clock> SharedTablet<L, D, C> {
         let mut engine = self.lock.enter(rt, pass);
         engine.session_over(by);
         self.lock.leave(pass, engine);
+    }
+
+    /// Ends a run, once each other pass was joined into this one and none has a device: makes durable what still waits for the log, and publishes a
+    /// superblock with the present mark and last timestamp. The tablet that it leaves is the one that all passes tell, but for a `stop` line.
+    pub fn close(self, alloc: Global, pass: Pass<Engine<L, D, C>>) -> Closing<L, D, C>
+        requires own { IsPassOf self.lock pass }
+        requires outside { IsOutside pass }
+        requires last { IsLastPass pass }
+        requires home { AreHome pass }
+        ensures told { (view : EngineView L D C) × IsTold pass view × IsSound C.readings view.tablet × (root_of result.engine ≡ root_of view) × MayHalt view result.engine }
+        ensures home { result.engine.log.holder ≡ None }
+        ensures store_home { result.engine.store.holder ≡ None }
+        ensures ends { EndsAs result.engine result.end }
+    {
+        let number = pass.number();
+        let SharedTablet { lock } = self;
+        let mut engine = lock.close(pass);
+        engine.standing();
+        let end = finish(alloc, &mut engine, number);
+        Closing { engine, end }
     }
 
     /// The next command of a session: a write, a scan, a mark or maintenance.

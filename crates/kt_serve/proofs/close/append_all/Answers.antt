@@ -3,7 +3,7 @@ use Rattle.kt_serve.specs.Sessions.{has_stop}
 use Rattle.kt_serve.specs.Closing.{IsDone}
 use Rattle.kt_engine.proofs.Devices.{goes_whole}
 use Rattle.kt_serve.proofs.Stops.{no_stop}
-use Rattle.kt_serve.proofs.Closing.{at_stop, none_some}
+use Rattle.kt_serve.proofs.Ending.{at_stop, none_some}
 use Rattle.kt_serve.proofs.close.append_all.Goals as goal
 
 pub unreachable-requires-in-Err-Out : goal.unreachable-requires-in-Err-Out

@@ -5,7 +5,7 @@ use Rattle.kt_journal.specs.Log.{records_of, IsOldOrBoth, CanOpen}
 use Rattle.kt_engine.specs.Visits.{root_of}
 use Rattle.kt_engine.specs.Moments.{IsAppendedTo}
 use Rattle.kt_serve.proofs.Failed.{of_batch}
-use Rattle.kt_serve.proofs.Closing.{just_stopped}
+use Rattle.kt_serve.proofs.Ending.{just_stopped}
 use Rattle.kt_serve.proofs.close.append_last.Goals as goal
 
 pub returns-in-Ok-clause-tablet : goal.returns-in-Ok-clause-tablet

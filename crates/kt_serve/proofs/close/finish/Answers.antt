@@ -1,4 +1,4 @@
-use Rattle.kt_serve.proofs.Closing.{halts_on}
+use Rattle.kt_serve.proofs.Ending.{halts_on}
 use Rattle.kt_serve.proofs.close.finish.Goals as goal
 
 -- nothing has stopped it before the superblock goes out

@@ -6,7 +6,7 @@ use Rattle.kt_engine.specs.Jobs.{job_of, rewritten}
 use Rattle.kt_engine.specs.Stored.{next_super}
 use Rattle.kt_engine.specs.Visits.{root_of}
 use Rattle.kt_engine.proofs.JobCalls.{lent_none, meta_none}
-use Rattle.kt_serve.proofs.Closing.{no_job, none_some, done_on, halts_on}
+use Rattle.kt_serve.proofs.Ending.{no_job, none_some, done_on, halts_on}
 use Rattle.kt_serve.proofs.close.publish_last.Goals as goal
 
 -- no pass has it, and the tablet goes on

@@ -8,7 +8,7 @@ use Rattle.kt_storeside.specs.Sides.{published_in}
 use Rattle.kt_engine.specs.Moments.{LeavesInTurn}
 use Rattle.kt_engine.specs.Stored.{next_super}
 use Rattle.kt_engine.specs.Visits.{root_of}
-use Rattle.kt_serve.proofs.Closing.{just_stopped, closed, meta_is}
+use Rattle.kt_serve.proofs.Ending.{just_stopped, closed, meta_is}
 use Rattle.kt_serve.proofs.Failed.{of_lent, no_log}
 use Rattle.kt_serve.proofs.close.publish_lent.Goals as goal
 
