@@ -5,7 +5,7 @@ use std::sync::{Condvar, Mutex, Wait};
 use std::time::{Clock, Duration};
 
 // How long a run is held at most, in seconds. Then the gate has given up.
-const PATIENCE: u64 = 5;
+const PATIENCE: u64 = 30;
 
 /// A moment of a run.
 #[derive(Clone, Copy)]
@@ -13,6 +13,8 @@ pub enum Moment {
     At(Point),
     /// The first change of the device of this mark behind the point.
     ChangeAfter { mark: u32, point: Point },
+    /// What a job made is published.
+    AnyPublished,
 }
 
 /// Holds a run at the first of two moments until it has come to the second.
@@ -46,6 +48,7 @@ impl Watch {
         }
         let comes = match self.moment {
             Moment::At(wanted) => wanted == point,
+            Moment::AnyPublished => matches!(point, Point::Published { .. }),
             Moment::ChangeAfter {
                 mark: wanted,
                 point: before,

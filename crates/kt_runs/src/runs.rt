@@ -11,10 +11,12 @@ use std::sync::Wait;
 use std::test::Fail;
 use std::thread::Threads;
 
+mod beside;
 mod crashes;
 mod points;
 mod schedules;
 mod stops;
+mod workers;
 
 const HEAD: &[u8] = b"table\ncolumn id int64 key\ncolumn v string\n";
 

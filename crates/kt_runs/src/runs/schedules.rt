@@ -1,5 +1,6 @@
 //! Runs of two sessions, whose schedule a gate decides where it matters.
 
+use super::crashes::Devices;
 use super::run;
 use crate::hold::{HoldGate, Moment, Rule};
 use kt_base::{MemSink, NoMemory};
@@ -11,11 +12,29 @@ use std::thread::Threads;
 use std::time::Clock;
 
 // What is run, how it is held, and what it prints.
-struct Schedule {
-    lines: &'static [u8],
-    first: Rule,
-    second: Rule,
-    printed: &'static [u8],
+#[derive(Clone, Copy)]
+pub(super) struct Schedule {
+    pub(super) lines: &'static [u8],
+    pub(super) first: Rule,
+    pub(super) second: Rule,
+    pub(super) printed: &'static [u8],
+}
+
+// What a schedule came to.
+#[derive(Drop)]
+pub(super) struct Played {
+    status: u8,
+    sink: MemSink,
+    // It was held in vain.
+    gave_up: bool,
+    pub(super) devices: Devices,
+}
+
+impl Played {
+    // Whether it ended well with this text, and was held for what came.
+    pub(super) fn is(&self, printed: &[u8]) -> bool {
+        self.status == 0 && !self.gave_up && self.sink.bytes() == printed
+    }
 }
 
 const BEGUN: Moment = Moment::At(Point::Begun {
@@ -42,13 +61,13 @@ const COMPACTS: Moment = Moment::ChangeAfter {
 };
 
 // The second session comes to its first command.
-const SECOND: Moment = Moment::At(Point::Before {
+pub(super) const SECOND: Moment = Moment::At(Point::Before {
     session: 2,
     index: 1,
 });
 
 // The second session is answered its first command, and its second one.
-const ANSWERED: Moment = Moment::At(Point::After {
+pub(super) const ANSWERED: Moment = Moment::At(Point::After {
     session: 2,
     index: 1,
 });
@@ -141,25 +160,33 @@ const SCHEDULES: [Schedule; 5] = [
     },
 ];
 
-// The status and the output of a schedule over an empty log and store, and whether it was held in vain.
-fn play<R: Threads + Wait + Clock + Sync>(
+// A schedule over an empty log and store.
+pub(super) fn play<R: Threads + Wait + Clock + Sync>(
     rt: &R,
     alloc: Global,
     it: &Schedule,
-) -> Result<(u8, MemSink, bool), NoMemory> {
+) -> Result<Played, NoMemory> {
     let gate = HoldGate::of(rt, it.first, it.second);
     let log = HeldDisk::of(MemDisk::new(alloc), &gate, 1);
     let store = HeldDisk::of(MemDisk::new(alloc), &gate, 2);
-    let (status, sink, ..) = run(rt, alloc, it.lines, log, store, &gate)?;
-    Ok((status, sink, gate.gave_up()))
+    let (status, sink, log, store) = run(rt, alloc, it.lines, log, store, &gate)?;
+    let devices = Devices {
+        log: log.into_inner(),
+        store: store.into_inner(),
+    };
+    Ok(Played {
+        status,
+        sink,
+        gave_up: gate.gave_up(),
+        devices,
+    })
 }
 
 #[test]
 fn each_schedule_prints_its_text(rt: HostRuntime) -> Result<(), Fail> {
     for it in &SCHEDULES {
-        let (status, sink, gave_up) = play(&rt, rt.alloc(), it)?;
-        assert_eq!(rt; (status, gave_up), (0, false));
-        assert_eq!(rt; sink.bytes(), it.printed);
+        let played = play(&rt, rt.alloc(), it)?;
+        assert!(rt; played.is(it.printed));
     }
     Ok(())
 }
