@@ -14,7 +14,6 @@ use Rattle.kt_schema.specs.declared.column.Column.{Column}
 use Rattle.kt_history.specs.declared.operation.OpKind.{OpKind}
 use Rattle.kt_history.specs.declared.operation.OpKind.TheVariants as op
 use Rattle.kt_history.specs.declared.operation.RowOp.{RowOp}
-use Rattle.kt_history.specs.declared.operation.Write.{Write}
 use Rattle.kt_script.specs.declared.forms.OpForm.{OpForm}
 use Rattle.kt_script.specs.declared.forms.OpForm.TheVariants as form
 use Rattle.kt_script.specs.Pieces.{words_in}

@@ -9,7 +9,6 @@ ghost use Rattle.kt_script.specs.Drafts.{command_in, IsInside};
 use kt_base::NoMemory;
 use kt_history::{Command, OpList, OpRef, Session, Write};
 use std::alloc::Global;
-use std::collections::VecDeque;
 use std::marker::Model;
 
 // The most operations of a write that stand in the list of all. A write of more has a list of its own.
@@ -38,7 +37,7 @@ enum Entry {
 pub(crate) struct Draft {
     alloc: Global,
     ops: OpList,
-    entries: VecDeque<Entry>,
+    entries: Vec<Entry>,
 }
 
 impl Model for Draft {
@@ -135,17 +134,13 @@ fn command_of(alloc: Global, ops: &OpList, entry: Entry) -> Result<Command, NoMe
 }
 
 // The commands of some entries.
-fn commands_of(
-    alloc: Global,
-    ops: &OpList,
-    entries: VecDeque<Entry>,
-) -> Result<Vec<Command>, NoMemory>
+fn commands_of(alloc: Global, ops: &OpList, entries: Vec<Entry>) -> Result<Vec<Command>, NoMemory>
     requires { All (IsInside ops.now) entries.items }
     ensures { IfOk result (λ commands. commands.items ≡ map (command_in ops.now) entries.items) }
 {
-    let mut left = entries;
-    let mut commands = Vec::with_capacity(alloc, left.len())?;
-    'entries: while let Some(entry) = left.pop_front() {
+    let mut commands = Vec::with_capacity(alloc, entries.len())?;
+    let mut left = entries.into_iter();
+    'entries: while let Some(entry) = left.next() {
         commands.push(command_of(alloc, ops, entry)?)?;
     }
     Ok(commands)
@@ -159,7 +154,7 @@ impl Draft {
         Draft {
             alloc,
             ops: OpList::new(alloc),
-            entries: VecDeque::new(alloc),
+            entries: Vec::new(alloc),
         }
     }
 
@@ -171,7 +166,7 @@ impl Draft {
         Ok(Draft {
             alloc,
             ops: OpList::with_capacity(alloc, writes, writes * OP_BYTES)?,
-            entries: VecDeque::with_capacity(alloc, writes + writes / 32)?,
+            entries: Vec::with_capacity(alloc, writes + writes / 32)?,
         })
     }
 
@@ -187,7 +182,7 @@ impl Draft {
         ensures err { OnErr result (self.new ≡ self.old) }
     {
         let entry = entry_of(self.alloc, &mut self.ops, command, spare)?;
-        self.entries.push_back(entry)?;
+        self.entries.push(entry)?;
         Ok(())
     }
 
@@ -198,7 +193,7 @@ impl Draft {
     {
         let first = self.ops.len();
         self.ops.push(op)?;
-        self.entries.push_back(Entry::Few(Part { first, len: 1 }))?;
+        self.entries.push(Entry::Few(Part { first, len: 1 }))?;
         Ok(())
     }
 

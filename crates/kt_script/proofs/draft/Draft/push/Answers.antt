@@ -7,12 +7,12 @@ pub returns-in_err-entry-clause-err : goal.returns-in_err-entry-clause-err
 returns-in_err-entry-clause-err c =
     on_err c.from_residual.result (same_view c.self.inside.ops c.entry_of.new.ops c.entry_of.ensures.front c.self.inside.entries.items c.args.self.now c.self.invariant c.self.view_is)
 
-pub returns-in_err-push_back-clause-err : goal.returns-in_err-push_back-clause-err
-returns-in_err-push_back-clause-err c =
-    on_err c.from_residual-in_err-push_back.result
-    (ap (map (command_in c.entry_of.new.ops)) c.in_err-push_back.ensures.items ∙ same_view c.self.inside.ops c.entry_of.new.ops c.entry_of.ensures.front c.self.inside.entries.items c.args.self.now c.self.invariant c.self.view_is)
+pub returns-in_err-push-clause-err : goal.returns-in_err-push-clause-err
+returns-in_err-push-clause-err c =
+    on_err c.from_residual-in_err-push.result
+    (ap (map (command_in c.entry_of.new.ops)) c.in_err-push.ensures.items ∙ same_view c.self.inside.ops c.entry_of.new.ops c.entry_of.ensures.front c.self.inside.entries.items c.args.self.now c.self.invariant c.self.view_is)
 
 pub returns-clause-ok : goal.returns-clause-ok
 returns-clause-ok c =
-    ap (map (command_in c.entry_of.new.ops)) c.in_ok-push_back.ensures.items
+    ap (map (command_in c.entry_of.new.ops)) c.in_ok-push.ensures.items
     ∙ pushed_view c.self.inside.ops c.entry_of.new.ops c.entry_of.ensures.front c.self.inside.entries.items c.in_ok-entry.entry c.args.command c.args.self.now c.self.invariant c.self.view_is c.in_ok-entry.ensures.command
