@@ -51,7 +51,7 @@ rowsets_more rowset rowset_later file file_later least taken (r ∷ rs) le more 
 -- ---- the superblock
 
 module _ {D : Type 0} (tells : Bool) (seen : D → Files) (now : D → ℕ) (leaves : D → ℕ → Files → Type 0) (faults : D → ℕ) (v : StoreView D) (s : IsSide tells seen now leaves faults v) (a c need : ℕ)
-    (a_fits : a < 2 ^ 64) (c_fits : c < 2 ^ 64) (number : v.meta.number + 1 < 2 ^ 62) (need_fits : need < 2 ^ 62) (rowset_fits : v.next_rowset < 2 ^ 62) (file_fits : v.next_file < 2 ^ 62) where
+    (a_fits : a < 2 ^ 64) (c_fits : c < 2 ^ 64) (number : v.meta.number + 1 < 2 ^ 62) (few : v.meta.number + 1 ≤ v.first.most.number) (need_fits : need < 2 ^ 62) (rowset_fits : v.next_rowset < 2 ^ 62) (file_fits : v.next_file < 2 ^ 62) where
   abbrev next : Meta
   next = next_meta v a c need
 
@@ -77,6 +77,7 @@ module _ {D : Type 0} (tells : Bool) (seen : D → Files) (now : D → ℕ) (lea
   pub next_may_be_lent : MayBeLent tells seen now leaves v next
   next_may_be_lent = record {
     next = record { rules = next_rules; number = refl; rowsets = omega arith; files = omega arith };
+    within = record { number = few; last_mem = s.within.last_mem; last_dms = s.within.last_dms };
     files = λ t image left n named. (s.publishes t).files image left n named;
   }
 

@@ -1,15 +1,51 @@
 -- What a contract sees of the store of an engine.
-use Rattle.std.specs.Prelude.{◌≡◌, ◌⊎◌, ℕ, ◌+◌, ◌≤◌, Bool, true, false, IsTrue, Option, Some, None, Ok}
+use Rattle.std.specs.Prelude.{◌≡◌, ◌⊎◌, ℕ, ◌+◌, ◌^◌, ◌≤◌, max, Bool, true, false, IsTrue, List, [], ◌∷◌, Option, Some, None, Ok}
+use Rattle.std.specs.List.{AllByRecursion}
 use Rattle.kt_base.specs.Causes.{Rose}
 use Rattle.kt_disk.specs.Disk.{Files, held}
 use Rattle.kt_super.specs.declared.meta.Meta.{Meta}
+use Rattle.kt_super.specs.declared.meta.MetaRowset.{MetaRowset}
 use Rattle.kt_super.specs.Body.{IsMeta}
 use Rattle.kt_super.specs.Slots.{slot_at, IsSlot}
 use Rattle.kt_storeside.specs.Supers.{FilesStand, Publishes, HasSuper, IsSuccessor, NamedStand}
 
+-- ---- how great the numbers of a superblock may grow
+
+-- bounds on the number of a superblock, on that of the last MemRowSet in files, and on those of the last DeltaMemStores in files
+pub record Most : Type 0 where
+  pub number : ℕ
+  pub last_mem : ℕ
+  pub last_dms : ℕ
+
+-- the superblock lies within them
+pub record IsWithin (most : Most) (m : Meta) : Type 0 where
+  pub number : m.number ≤ most.number
+  pub last_mem : m.last_mem ≤ most.last_mem
+  pub last_dms : AllByRecursion (λ (r : MetaRowset). r.last_dms ≤ most.last_dms) m.rowsets
+
+-- the greatest number of a DeltaMemStore in files, or this one
+abbrev pub greatest_dms : ℕ → List MetaRowset → ℕ
+greatest_dms least [] = least
+greatest_dms least (r ∷ rowsets) = max r.last_dms (greatest_dms least rowsets)
+
+-- what lies 2^44 above this number, and otherwise above what a superblock has, 2^24 above this MemRowSet and 2^44 above this rowset number
+abbrev pub most_above : ℕ → Meta → ℕ → ℕ → Most
+most_above number m mem rowset = record { number = number + 2 ^ 44; last_mem = max m.last_mem (mem + 2 ^ 24); last_dms = greatest_dms (rowset + 2 ^ 44) m.rowsets }
+
+-- those of a store that begins with this superblock, where this MemRowSet takes inserts and this rowset number comes next
+abbrev pub most_from : Meta → ℕ → ℕ → Most
+most_from m mem rowset = most_above m.number m mem rowset
+
+-- how a store began: its device, and the bounds on the superblocks that it publishes
+pub record Beginning (D : Type 0) : Type 0 where
+  pub device : D
+  pub most : Most
+
+-- ---- the store
+
 -- known is the device as it is, or as it last went out; home is the device where it is at home; holder is the pass that has it out. meta is the
 -- superblock that is published, and lent the one that went out to be. The next numbers have not been given yet. After a fault it is no longer whole. first is
--- the device as it was when the side began.
+-- how the side began.
 pub record StoreView (D : Type 0) : Type 0 where
   pub home : Option D
   pub known : D
@@ -19,7 +55,7 @@ pub record StoreView (D : Type 0) : Type 0 where
   pub next_rowset : ℕ
   pub next_file : ℕ
   pub whole : Bool
-  pub first : D
+  pub first : Beginning D
 
 -- the device as it is, where it is at home and whole, and else as it went out
 abbrev pub known_in : {D : Type 0} → Option D → Bool → D → D
@@ -38,7 +74,7 @@ holder_in None by = Some by
 holder_in (Some disk) by = None
 
 -- the store as its parts are: the device where it is at home, the pass that has it out otherwise, and the device and the superblock as they last went out
-abbrev pub side_of : {D : Type 0} → Option D → Bool → D → ℕ → Meta → Option Meta → ℕ → ℕ → D → StoreView D
+abbrev pub side_of : {D : Type 0} → Option D → Bool → D → ℕ → Meta → Option Meta → ℕ → ℕ → Beginning D → StoreView D
 side_of home whole went by meta lent next_rowset next_file first = record { home = home; known = known_in home whole went; holder = holder_in home by; meta = meta; lent = lent_in home whole lent; next_rowset = next_rowset; next_file = next_file; whole = whole; first = first }
 
 -- the superblock that is published once the device is home
@@ -63,28 +99,31 @@ SpellLent files lent c = (slot : ℕ) → IsSlot slot → (m : Meta) → slot_at
 abbrev pub LeavesSpelled : {D : Type 0} → (D → ℕ) → (D → ℕ → Files → Type 0) → Files → Option Meta → D → Type 0
 LeavesSpelled now leaves files lent disk = (c : Files) → leaves disk (now disk) c → SpellLent files lent c
 
--- a superblock may be lent: it is a successor, and the data files that it names stand
+-- a superblock may be lent: it is a successor within the bounds, and the data files that it names stand
 pub record MayBeLent {D : Type 0} (tells : Bool) (seen : D → Files) (now : D → ℕ) (leaves : D → ℕ → Files → Type 0) (v : StoreView D) (m : Meta) : Type 0 where
   pub next : IsSuccessor v.meta v.next_rowset v.next_file m
+  pub within : IsWithin v.first.most m
   pub files : IsTrue tells → FilesStand seen now leaves m v.known
 
--- A superblock that was made: it keeps the rules, and has no number that is still to be given
-pub record IsMade (published next_rowset next_file : ℕ) (m : Meta) : Type 0 where
+-- A superblock that was made: it keeps the rules, lies within the bounds, and has no number that is still to be given
+pub record IsMade (most : Most) (published next_rowset next_file : ℕ) (m : Meta) : Type 0 where
   pub rules : IsMeta m
+  pub within : IsWithin most m
   pub number : m.number ≤ published + 1
   pub rowsets : m.next_rowset ≤ next_rowset
   pub files : m.next_file ≤ next_file
 
 -- each open slot of these files spells what it spelled when the side began, or a superblock that was made since
 abbrev pub SpellMade : {D : Type 0} → (D → Files) → StoreView D → Files → Type 0
-SpellMade seen v c = (slot : ℕ) → IsSlot slot → (m : Meta) → slot_at slot (held c slot) ≡ Ok (Some m) → (slot_at slot (held (seen v.first) slot) ≡ Ok (Some m)) ⊎ IsMade v.meta.number v.next_rowset v.next_file m
+SpellMade seen v c = (slot : ℕ) → IsSlot slot → (m : Meta) → slot_at slot (held c slot) ≡ Ok (Some m) → (slot_at slot (held (seen v.first.device) slot) ≡ Ok (Some m)) ⊎ IsMade v.first.most v.meta.number v.next_rowset v.next_file m
 
--- The store stands: the known device publishes its superblock, no file has a number that is still to be given, and what was lent may be. After
+-- The store stands: the known device publishes its superblock, which lies within the bounds, no file has a number that is still to be given, and what was lent may be. After
 -- a fault each image has one of both superblocks. At home nothing is pending of the data files that the superblock of an image names, and no slot of one
 -- spells another superblock than it spelled as the known device reads, or than the lent one; as that reads, none than when the side began, or than were made
 -- since.
 pub record IsSide {D : Type 0} (tells : Bool) (seen : D → Files) (now : D → ℕ) (leaves : D → ℕ → Files → Type 0) (faults : D → ℕ) (v : StoreView D) : Type 0 where
   pub rules : IsMeta v.meta
+  pub within : IsWithin v.first.most v.meta
   pub rowsets : v.meta.next_rowset ≤ v.next_rowset
   pub files : v.meta.next_file ≤ v.next_file
   pub publishes : IsTrue tells → Publishes seen now leaves v.meta v.known

@@ -15,7 +15,7 @@ const SMALL: u64 = 1 << 62;
 
 impl<D: Disk + Drop> StoreSide<D> {
     /// The superblock that comes next: with the rowsets and columns of the published one, and with this mark, last timestamp and count of
-    /// records. Where a number would be too great for a superblock there is none, as for want of memory.
+    /// records. Where a number would be too great for a superblock, or too many were published since the side began, there is none, as for want of memory.
     pub fn next_meta(&self, alloc: Global, a: u64, c: u64, need: u64) -> Result<Meta, NoMemory>
         ensures next { IfOk result (λ m. m ≡ next_meta self.now a c need) }
         ensures lent { IfOk result (λ m. MayBeLent D.tells D.seen D.now D.leaves self.now m) }
@@ -25,6 +25,9 @@ impl<D: Disk + Drop> StoreSide<D> {
         let was = self.meta();
         let (next_rowset, next_file) = self.next_numbers();
         let number = was.number;
+        if !self.has_number() {
+            return Err(NoMemory);
+        }
         if number >= SMALL - 1 || need >= SMALL || next_rowset >= SMALL || next_file >= SMALL {
             return Err(NoMemory);
         }

@@ -1,18 +1,21 @@
 //! The store of an engine, at home or lent.
-ghost use Rattle.std.specs.Prelude.{◌≡◌, ◌≤◌, ℕ, List, Bool, IsTrue, true, false, Some, None, Ok};
+ghost use Rattle.std.specs.Prelude.{◌≡◌, ◌≤◌, ◌+◌, ℕ, List, Bool, IsTrue, true, false, Some, None, Ok};
 ghost use Rattle.kt_base.specs.Causes.{Rose};
 ghost use Rattle.kt_super.specs.declared.meta.Meta.{Meta};
 ghost use Rattle.kt_super.specs.Body.{IsMeta};
 ghost use Rattle.kt_super.specs.Slots.{super_of, AreStable};
 ghost use Rattle.kt_storeside.specs.Supers.{Publishes, HasSuper};
 ghost use Rattle.kt_storeside.specs.Turns.{IsLeft, IsTurn, StandsWith, HasOneOf};
-ghost use Rattle.kt_storeside.specs.Sides.{StoreView, IsSide, MayBeLent, SpellLent, LeavesSpelled, SpellMade, published_in};
+ghost use Rattle.kt_storeside.specs.Sides.{StoreView, IsSide, MayBeLent, SpellLent, LeavesSpelled, SpellMade, published_in, most_from};
 
 use kt_disk::Disk;
 use kt_super::Meta;
 use std::marker::Model;
 use std::mem;
 use std::snapshot::Snapshot;
+
+/// So many superblocks are published in one opening at most.
+const MANY_SUPERBLOCKS: u64 = 1 << 44;
 
 /// The store, lent to a pass: with the superblock that it is to publish, if it is to publish one, and the first numbers of rowsets and files
 /// that it may give.
@@ -36,16 +39,20 @@ pub struct StoreSide<D: Disk> {
     went: Snapshot<D>,
     lent: Snapshot<Option<Meta>>,
     first: Snapshot<D>,
+    first_number: u64,
+    first_meta: Snapshot<Meta>,
+    first_mem: Snapshot<u64>,
+    first_rowset: Snapshot<u64>,
 }
 
 impl<D: Disk> Model for StoreSide<D> {
-    ghost use Rattle.kt_storeside.specs.Sides.{StoreView, IsSide, side_of};
+    ghost use Rattle.kt_storeside.specs.Sides.{StoreView, IsSide, side_of, most_above};
 
     ghost Value = { StoreView D };
 
-    ghost view = { λ s. side_of s.home s.whole s.went.value s.by s.meta s.lent.value s.next_rowset s.next_file s.first.value };
+    ghost view = { λ s. side_of s.home s.whole s.went.value s.by s.meta s.lent.value s.next_rowset s.next_file (record { device = s.first.value; most = most_above s.first_number s.first_meta.value s.first_mem.value s.first_rowset.value }) };
 
-    ghost invariant = { λ s. IsSide D.tells D.seen D.now D.leaves D.faults (side_of s.home s.whole s.went.value s.by s.meta s.lent.value s.next_rowset s.next_file s.first.value) };
+    ghost invariant = { λ s. IsSide D.tells D.seen D.now D.leaves D.faults (side_of s.home s.whole s.went.value s.by s.meta s.lent.value s.next_rowset s.next_file (record { device = s.first.value; most = most_above s.first_number s.first_meta.value s.first_mem.value s.first_rowset.value })) };
 }
 
 // Puts the device into its empty place.
@@ -72,14 +79,14 @@ fn put_published(place: &mut Meta, lent: Option<Meta>, published: bool)
 }
 
 impl<D: Disk + Drop> StoreSide<D> {
-    /// A device that publishes this superblock. No file of it has a number that is still to be given.
-    pub fn of(device: D, meta: Meta, next_rowset: u64, next_file: u64) -> StoreSide<D>
+    /// A device that publishes this superblock, while the MemRowSet of this number takes inserts. No file of it has a number that is still to be given.
+    pub fn of(device: D, meta: Meta, next_rowset: u64, next_file: u64, mem: u64) -> StoreSide<D>
         requires rules { IsMeta meta }
         requires rowsets { meta.next_rowset ≤ next_rowset }
         requires files { meta.next_file ≤ next_file }
         requires publishes { IsTrue D.tells → Publishes D.seen D.now D.leaves meta device }
         requires vacant { IsTrue D.tells → (n : ℕ) → next_file ≤ n → D.seen device n ≡ None }
-        ensures { result ≡ record { home = Some device; known = device; holder = None; meta = meta; lent = None; next_rowset = next_rowset; next_file = next_file; whole = true; first = device } }
+        ensures { result ≡ record { home = Some device; known = device; holder = None; meta = meta; lent = None; next_rowset = next_rowset; next_file = next_file; whole = true; first = record { device = device; most = most_from meta mem next_rowset } } }
     {
         StoreSide {
             by: 0,
@@ -89,6 +96,10 @@ impl<D: Disk + Drop> StoreSide<D> {
             went: Snapshot::of(&device),
             lent: Snapshot::of(&None),
             first: Snapshot::of(&device),
+            first_number: meta.number,
+            first_meta: Snapshot::of(&meta),
+            first_mem: Snapshot::of(&mem),
+            first_rowset: Snapshot::of(&next_rowset),
             home: Some(device),
             meta,
         }
@@ -118,6 +129,13 @@ impl<D: Disk + Drop> StoreSide<D> {
         ensures { result ≡ (self.now.next_rowset, self.now.next_file) }
     {
         (self.next_rowset, self.next_file)
+    }
+
+    // Whether the next superblock may be published: too few were since the side began for its number to lie above the bound.
+    pub(crate) fn has_number(&self) -> bool
+        ensures { IsTrue result → self.now.meta.number + 1 ≤ self.now.first.most.number }
+    {
+        self.meta.number.saturating_sub(self.first_number) < MANY_SUPERBLOCKS
     }
 
     /// The store stands. What a crash leaves of a device at home is the published superblock with the data files that it names; after a fault (`broken` of
