@@ -65,6 +65,7 @@ module _ {L D C : Type 0} (log_tells : Bool) (log_seen : L → Files) (log_now :
           names_below = s.names_below;
           near = subst (λ (k : ℕ). AreNear view.found view.tablet.names view.first_rowset view.store.next_rowset k s.run) (sym counted) (near_begun view.found view.tablet.names view.first_rowset view.store.next_rowset view.upkeep.begun s.run few s.near);
           files_near = s.files_near;
+          room = s.room;
           rests = inl free;
           jobs = jobs_kept (view.records ++ s.run) n (asked w job (upkeep_at n view.upkeep.passes)) view.upkeep upkeep has (λ j e. subst (JobOn (view.records ++ s.run)) (let one : job ≡ j = cc in one) on) s.jobs;
           outside = outside_beside view s.run s.outside upkeep n (asked w job (upkeep_at n view.upkeep.passes)) has free (λ zero_. absurd (let no : suc view.upkeep.begun ≡ 0 = sym counted ∙ zero_ in cc)) (λ j e. let one : job ≡ j = cc in sym (ap (λ (x : JobView). is_at_outside x.stage) one) ∙ other);
@@ -155,6 +156,7 @@ module _ {L D C : Type 0} (log_tells : Bool) (log_seen : L → Files) (log_now :
     names_below = s.names_below;
     near = subst (λ (k : ℕ). AreNear view.found view.tablet.names view.first_rowset view.store.next_rowset k s.run) (sym counted.0) s.near;
     files_near = s.files_near;
+    room = s.room;
     rests = inl counted.1;
     jobs = jobs_kept (view.records ++ s.run) n (job_finished job.want (upkeep_at n view.upkeep.passes)) view.upkeep upkeep has (λ j e. absurd (let no : None ≡ Some j = e in cc)) s.jobs;
     outside = λ k j at out. absurd (none_kept n (job_finished job.want (upkeep_at n view.upkeep.passes)) view.upkeep upkeep has (λ i e. absurd (let no : None ≡ Some i = e in cc)) (none_beside view s.run s.outside n may.published.0) k j at out);

@@ -273,6 +273,7 @@ module _ {L D C : Type 0} (log_tells : Bool) (log_seen : L → Files) (tells : B
         (near_next view.found view.first_rowset view.store.next_rowset view.upkeep.begun d.number job.dms names is.run may.all.name
         (let low = rowset_below (numbers_of view) d.number job.dms names may.all.name is.names_below in let same = given_same view.store.next_rowset not_last in omega arith) few is.near);
     files_near = is.files_near;
+    room = is.room;
     rests = inr may.calm;
     jobs = jobs_kept (view.records ++ is.run) n _ view.upkeep upkeep goes.upkeep (λ own same. still_on own same) is.jobs;
     outside = λ k j at out. absurd (none_kept n _ view.upkeep upkeep goes.upkeep its_stage inside k j at out);

@@ -133,6 +133,7 @@ module _ {L D C : Type 0} (view : EngineView L D C) (tablet : View C) (upkeep : 
         near = subst (λ (n : ℕ). AreNear view.found over_names view.first_rowset view.store.next_rowset n is.run) (sym counted)
             (near_over view.found view.tablet.names view.first_rowset view.store.next_rowset view.upkeep.begun last t outputs is.run (first_over t view.tablet.names (map first_name outputs)) own is.near);
         files_near = is.files_near;
+        room = is.room;
         rests = inl still;
         jobs = jobs;
         outside = λ n job has at. absurd (inside n job has at);

@@ -111,6 +111,7 @@ module _ {L D C : Type 0} (log_tells : Bool) (log_seen : L → Files) (log_now :
     near = subst (λ (n : ℕ). AreNear view.found (Mem (h.number + 1) ∷ view.tablet.names) view.first_rowset view.store.next_rowset n is.run) (sym counted)
         (near_frozen view.found view.tablet.names view.first_rowset view.store.next_rowset view.upkeep.begun h.number is.run first_is few is.near);
     files_near = is.files_near;
+    room = is.room;
     rests = inl still;
     jobs = jobs;
     outside = λ n job has at. outside_frozen view.tablet view.store.meta view.store.lent upkeep view.records is.run job (outside n job has at) h.number h.others h.was;

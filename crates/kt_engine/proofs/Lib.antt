@@ -67,6 +67,7 @@ pub mod StoreOpened
 pub mod Both
 pub mod StoredWrites
 pub mod StorePurposes
+pub mod Within
 pub mod RedoFiles
 pub mod DeltaNames
 pub mod DeltaFiles

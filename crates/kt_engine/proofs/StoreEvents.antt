@@ -31,7 +31,7 @@ use Rattle.kt_content.proofs.Recovering.{runs_up}
 use Rattle.kt_reopen.specs.Both.{super_in}
 use Rattle.kt_storeside.specs.Supers.{named, HasSuper}
 use Rattle.kt_storeside.specs.Turns.{IsTurn, IsLeft}
-use Rattle.kt_storeside.specs.Sides.{StoreView, published_in, HasEither, IsSide}
+use Rattle.kt_storeside.specs.Sides.{StoreView, Beginning, published_in, HasEither, IsSide}
 use Rattle.kt_storeside.specs.Next.{next_meta}
 use Rattle.kt_storeside.proofs.Named.{named_between}
 use Rattle.kt_storeside.proofs.Standing.{left_below}
@@ -45,7 +45,7 @@ use Rattle.kt_engine.proofs.Devices.{store_keeps}
 use Rattle.kt_engine.proofs.Filed.{filed_on, none_at}
 use Rattle.kt_engine.proofs.Fronts.{last_of-append, low_below}
 use Rattle.kt_engine.proofs.Marks.{of_each}
-use Rattle.kt_engine.specs.Near.{most_rowsets, most_files}
+use Rattle.kt_engine.specs.Near.{LeavesRoom, most_rowsets, most_files}
 use Rattle.kt_engine.proofs.Near.{near_rises}
 use Rattle.kt_engine.proofs.Lists.{all_each}
 use Rattle.kt_engine.proofs.Outsiders.{NoneOutside, outside_lent, outside_home}
@@ -162,6 +162,7 @@ module _ {L D C : Type 0} (log_tells : Bool) (log_seen : L → Files) (tells : B
     names_below = is.names_below;
     near = is.near;
     files_near = is.files_near;
+    room = is.room;
     rests = is.rests;
     jobs = is.jobs;
     outside = outside_out lent refl;
@@ -216,9 +217,9 @@ module _ {L D C : Type 0} (log_tells : Bool) (log_seen : L → Files) (tells : B
   ]
 
   pub home_stored : (store : StoreView D) (disk : D) (published : Bool) (lent : Option Meta) (next : ℕ) → lent ≡ view.store.lent → (IsTrue tells → IsTurn seen now leaves view.store.next_file next view.store.known disk) → faults view.store.known ≤ faults disk
-      → store.home ≡ Some disk → store.known ≡ disk → store.meta ≡ published_in published lent view.store.meta → store.lent ≡ None → view.store.next_rowset ≤ store.next_rowset
+      → store.home ≡ Some disk → store.known ≡ disk → store.meta ≡ published_in published lent view.store.meta → store.lent ≡ None → store.first ≡ view.store.first → view.store.next_rowset ≤ store.next_rowset
       → store.next_rowset ≤ max view.store.next_rowset (view.first_rowset + most_rowsets) → store.next_file ≤ max view.store.next_file (view.first_file + most_files) → Stored (record view { store = store })
-  home_stored store disk published lent next same turn more at known meta none given few few_files = record {
+  home_stored store disk published lent next same turn more at known meta none began given few few_files = record {
     run = is.run;
     all = is.all;
     count = is.count;
@@ -230,6 +231,7 @@ module _ {L D C : Type 0} (log_tells : Bool) (log_seen : L → Files) (tells : B
     names_below = names_rise (numbers_of view) (numbers_of (record view { store = store })) (map name_of view.tablet.names) (given_rises view.store.next_rowset store.next_rowset given) (omega arith) is.names_below;
     near = near_rises view.found view.tablet.names view.first_rowset view.store.next_rowset store.next_rowset view.upkeep.begun is.run given (most_given most_rowsets view.store.next_rowset store.next_rowset view.first_rowset is.near.rowsets few) is.near;
     files_near = most_given most_files view.store.next_file store.next_file view.first_file is.files_near few_files;
+    room = subst (λ (b : Beginning D). LeavesRoom view.found view.first_rowset b.most) (sym began) is.room;
     rests = is.rests;
     jobs = is.jobs;
     outside = λ n job has at. outside_home view.tablet view.store.meta view.store.lent view.upkeep (view.records ++ is.run) job (is.outside n job has at) store.meta store.lent published (meta ∙ ap (λ (o : Option Meta). published_in published o view.store.meta) same) none;
@@ -270,7 +272,7 @@ pub home_both : {L D C : Type 0} (log_tells : Bool) (log_seen : L → Files) (lo
     → IsEngine log_tells log_seen log_now log_leaves log_faults (record view { store = store }) × IsStored log_tells log_seen tells seen faults (record view { store = store })
 home_both log_tells log_seen log_now log_leaves log_faults tells seen now leaves faults view side store disk published lent rowset file whole same turn more given few few_files e is = (
   store_keeps log_tells log_seen log_now log_leaves log_faults view store (ap (λ (s : StoreView _). s.whole) e ∙ sym whole) is.0,
-  home_stored log_tells log_seen tells seen now leaves faults view is.1 side store disk published lent file same turn more (ap (λ (s : StoreView _). s.home) e) (ap (λ (s : StoreView _). s.known) e) (ap (λ (s : StoreView _). s.meta) e) (ap (λ (s : StoreView _). s.lent) e)
+  home_stored log_tells log_seen tells seen now leaves faults view is.1 side store disk published lent file same turn more (ap (λ (s : StoreView _). s.home) e) (ap (λ (s : StoreView _). s.known) e) (ap (λ (s : StoreView _). s.meta) e) (ap (λ (s : StoreView _). s.lent) e) (ap (λ (s : StoreView _). s.first) e)
       (subst (λ (n : ℕ). view.store.next_rowset ≤ n) (sym (ap (λ (s : StoreView _). s.next_rowset) e)) given)
       (subst (λ (n : ℕ). n ≤ max view.store.next_rowset (view.first_rowset + most_rowsets)) (sym (ap (λ (s : StoreView _). s.next_rowset) e)) few)
       (subst (λ (n : ℕ). n ≤ max view.store.next_file (view.first_file + most_files)) (sym (ap (λ (s : StoreView _). s.next_file) e)) few_files),

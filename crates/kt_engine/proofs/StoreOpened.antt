@@ -28,7 +28,7 @@ use Rattle.kt_engine.specs.Memory.{name_of, AreNamed}
 use Rattle.kt_engine.specs.Logged.{PlanPasses, Waits, UntoldFly, AreCommits, NamesOnly, TakesUp, DeltasBelow, LogStands, KeepsFrom, KeepsSince}
 use Rattle.kt_engine.specs.Engines.{IsContent, core_from}
 use Rattle.kt_engine.specs.Files.{AreFiled}
-use Rattle.kt_engine.specs.Near.{first_number}
+use Rattle.kt_engine.specs.Near.{first_number, LeavesRoom}
 use Rattle.kt_engine.proofs.Filed.{filed_read}
 use Rattle.kt_engine.proofs.Near.{near_opened}
 use Rattle.kt_engine.specs.Stored.{IsOneOf, IsMarkOf, IsSuperOf, IsStored, next_given}
@@ -54,9 +54,9 @@ pub store_opened : {L D C : Type 0} (log_tells : Bool) (log_seen : L → Files) 
     → journal.count ≡ length records → (IsTrue log_tells → records_of (log_seen journal.disk) ≡ records)
     → store.lent ≡ None → (IsTrue tells → (held : List HeldFiles) × HoldAll (seen store.known) store.meta.rowsets held × (super ≡ super_in store.meta held))
     → (held : List HeldFiles) × AreEachNamed store.meta.rowsets held × AreReadOf held tablet.files × (IsTrue tells → HoldAll (seen store.known) store.meta.rowsets held) → (store.meta.a ≡ tablet.mark) × (tablet.core.a ≡ tablet.mark) → store.meta.c ≤ tablet.core.c → AreNamed super tablet.names → DeltasBelow tablet.names (records ++ queued) → All (NamesOnly tablet.names) queued → faults store_device ≤ faults store.known
-    → ((disk : D) → store.home ≡ Some disk → disk ≡ store.known)
+    → ((disk : D) → store.home ≡ Some disk → disk ≡ store.known) → LeavesRoom tablet.names store.next_rowset store.first.most
     → IsStored log_tells log_seen tells seen faults (opened_view tablet journal records super queued store store_device device)
-store_opened {L} {D} {C} log_tells log_seen tells seen faults tablet journal records super queued store store_device device trail aloft log commits taken numbers untold since last count reads none found filed mark clock named deltas only later at_home = record {
+store_opened {L} {D} {C} log_tells log_seen tells seen faults tablet journal records super queued store store_device device trail aloft log commits taken numbers untold since last count reads none found filed mark clock named deltas only later at_home room = record {
   run = queued;
   all = λ t. ap (λ l. l ++ queued) (sym (reads t));
   count = omega (arith, length-append records queued);
@@ -93,6 +93,7 @@ store_opened {L} {D} {C} log_tells log_seen tells seen faults tablet journal rec
   names_below = names_rise numbers.0 given (map name_of tablet.names) numbers.2 numbers.3 numbers.1.stores;
   near = near_opened tablet.names store.next_rowset queued only;
   files_near = omega arith;
+  room = room;
   rests = inl refl;
   jobs = λ n job has. absurd (let no : None ≡ Some job = has in cc);
   outside = λ n job has at. absurd (let no : None ≡ Some job = has in cc);

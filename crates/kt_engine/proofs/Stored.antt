@@ -241,6 +241,7 @@ module _ {L D C : Type 0} (log_tells : Bool) (log_seen : L → Files) (tells : B
     names_below = is.names_below;
     near = is.near;
     files_near = is.files_near;
+    room = is.room;
     rests = is.rests;
     jobs = is.jobs;
     outside = λ n job has at. outside_line view.tablet view.store.meta view.store.lent view.upkeep view.records is.run job (is.outside n job has at) e a c turns stopped clock rise up;
@@ -268,6 +269,7 @@ module _ {L D C : Type 0} (log_tells : Bool) (log_seen : L → Files) (tells : B
     names_below = is.names_below;
     near = is.near;
     files_near = is.files_near;
+    room = is.room;
     rests = is.rests;
     jobs = is.jobs;
     outside = is.outside;
@@ -325,6 +327,7 @@ module _ {L D C : Type 0} (log_tells : Bool) (log_seen : L → Files) (tells : B
     names_below = is.names_below;
     near = is.near;
     files_near = is.files_near;
+    room = is.room;
     rests = is.rests;
     jobs = is.jobs;
     outside = is.outside;
@@ -355,6 +358,7 @@ module _ {L D C : Type 0} (log_tells : Bool) (log_seen : L → Files) (tells : B
     names_below = is.names_below;
     near = subst (λ (n : ℕ). AreNear view.found view.tablet.names view.first_rowset view.store.next_rowset n is.run) (sym counted) is.near;
     files_near = is.files_near;
+    room = is.room;
     rests = rests;
     jobs = jobs;
     outside = outside;
@@ -389,6 +393,7 @@ module _ {L D C : Type 0} (log_tells : Bool) (log_seen : L → Files) (tells : B
     names_below = is.names_below;
     near = is.near;
     files_near = is.files_near;
+    room = is.room;
     rests = is.rests;
     jobs = is.jobs;
     outside = is.outside;

@@ -47,6 +47,7 @@ plan_stored {L} {D} {C} log_tells log_seen tells seen faults view is tablet plan
       names_below = is.names_below;
       near = is.near;
       files_near = is.files_near;
+      room = is.room;
       rests = is.rests;
       jobs = is.jobs;
       outside = λ n job has at. outside_planned view.tablet view.store.meta view.store.lent view.upkeep view.records is.run job (is.outside n job has at) work (first_turns plan);

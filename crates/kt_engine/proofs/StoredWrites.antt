@@ -76,6 +76,7 @@ module _ {L D C : Type 0} (log_tells : Bool) (log_seen : L → Files) (log_now :
         names_below = is.names_below;
         near = near_replicate old.found old.tablet.names old.first_rowset old.store.next_rowset old.upkeep.begun is.run ts ops is.near;
         files_near = is.files_near;
+        room = is.room;
         rests = inl none;
         jobs = λ n job has. job_more old.records is.run (Replicate ts ops) job (is.jobs n job has);
         outside = λ n job has at. outside_begun old.tablet old.store.meta old.store.lent old.upkeep old.records is.run job (is.outside n job has at) s i ts m place ops new above;
@@ -120,6 +121,7 @@ module _ {L D C : Type 0} (log_tells : Bool) (log_seen : L → Files) (log_now :
         names_below = is.names_below;
         near = near_commit old.found old.tablet.names old.first_rowset old.store.next_rowset old.upkeep.begun is.run f.ts rows (commit_names old.tablet.names f.ts outcomes rows are) is.near;
         files_near = is.files_near;
+        room = is.room;
         rests = inl none;
         jobs = λ n job has. job_more old.records is.run (Commit f.ts rows) job (is.jobs n job has);
         outside = λ n job has at. outside_ended old.tablet old.store.meta old.store.lent old.upkeep old.records is.run job (is.outside n job has at) s i f.ts handed.j rows tablet.notes (filter (λ p. not (p.0 == s)) old.tablet.places) handed.rows_are handed.notes;
@@ -166,6 +168,7 @@ module _ {L D C : Type 0} (log_tells : Bool) (log_seen : L → Files) (log_now :
         names_below = is.names_below;
         near = is.near;
         files_near = is.files_near;
+        room = is.room;
         rests = inl none;
         jobs = is.jobs;
         outside = λ n job has out.

@@ -20,7 +20,7 @@ use Rattle.kt_files.specs.Reading.{HoldsRowset}
 use Rattle.kt_merge.specs.Rewriting.{HasAtMostOneRedo, HasDeletesOnly}
 use Rattle.kt_outputs.specs.InPlace.{in_place, entry_of}
 use Rattle.kt_outputs.specs.Outputs.{meta_in}
-use Rattle.kt_storeside.specs.Sides.{MayBeLent}
+use Rattle.kt_storeside.specs.Sides.{MayBeLent, IsWithin}
 use Rattle.kt_tablet.specs.Views.{View}
 use Rattle.kt_tablet.specs.Jobs.{dms_in, store_in_names, next_dms, files_of, with_files}
 use Rattle.kt_engine.specs.declared.upkeep.Stage.TheVariants as stage
@@ -144,7 +144,7 @@ NamesAtMostOneRedo (want.Major r) rowsets = redo_files r rowsets ≤ 1
 NamesAtMostOneRedo _ rowsets = Unit {0}
 
 -- It may be published, while nothing flies: its files tell all that the tablet has, stand on the device and fit, and its superblock may be lent where the one
--- with the old files may
+-- with the old files may, if it lies within the bounds of the store
 pub record MayPublishDeltas {L D C : Type 0} (tells : Bool) (seen : D → Files) (now : D → ℕ) (leaves : D → ℕ → Files → Type 0) (v : EngineView L D C) (job : JobView) (d : RowSetData) : Type 0 where
   pub at : job.stage ≡ stage.Written
   pub output : job.output ≡ Some d
@@ -155,7 +155,7 @@ pub record MayPublishDeltas {L D C : Type 0} (tells : Bool) (seen : D → Files)
   pub fits : undos_fit (files_in d) ≡ true
   pub begun : v.upkeep.begun ≢ 0
   pub hold : IsTrue tells → HoldsRowset (seen v.store.known) (meta_in job.dms d) (held_in d)
-  pub lent : MayBeLent tells seen now leaves v.store (next_super v) → is_small job.dms ≡ true → MayBeLent tells seen now leaves v.store (delta_meta v job.dms d)
+  pub lent : MayBeLent tells seen now leaves v.store (next_super v) → is_small job.dms ≡ true → IsWithin v.store.first.most (delta_meta v job.dms d) → MayBeLent tells seen now leaves v.store (delta_meta v job.dms d)
 
 -- The store as it goes out with this superblock, while the next DeltaMemStore of the rowset takes its changes; and what passes have of maintenance then
 abbrev pub lent_deltas : {L D C : Type 0} → EngineView L D C → ℕ → ℕ → Meta → UpkeepsView → EngineView L D C

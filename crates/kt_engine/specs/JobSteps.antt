@@ -27,7 +27,7 @@ use Rattle.kt_files.specs.Content.{rowsets_in}
 use Rattle.kt_files.specs.Named.{AreNamed}
 use Rattle.kt_files.specs.Reading.{HoldAll}
 use Rattle.kt_merge.specs.Merge.{hists_upto, AreReadable, rows_and_changes}
-use Rattle.kt_storeside.specs.Sides.{MayBeLent}
+use Rattle.kt_storeside.specs.Sides.{MayBeLent, IsWithin}
 use Rattle.kt_stores.specs.Takes.{Takes, mems, rowsets}
 use Rattle.kt_tablet.specs.Views.{View}
 use Rattle.kt_tablet.specs.Jobs.{frozen_names, taken_stores, entries_in, changes_in_memory, rows_in_first, HasFrozen, HasChangedOver, MayChangeOver}
@@ -212,7 +212,7 @@ abbrev pub outputs_of : JobView → List DiskRowset
 outputs_of job = rowsets_in job.metas job.held
 
 -- A flush or a compaction may publish, while nothing flies: its outputs are named as their files have them, what it takes is as when it began, and its superblock may be lent
--- where the next one may that changes no rowset, if its last MemRowSet has a number that a superblock spells
+-- where the next one may that changes no rowset, if its last MemRowSet has a number that a superblock spells and it lies within the bounds of the store
 pub record MayPublishJob {L D C : Type 0} (tells : Bool) (seen : D → Files) (now : D → ℕ) (leaves : D → ℕ → Files → Type 0) (v : EngineView L D C) (job : JobView) : Type 0 where
   pub at : job.stage ≡ stage.Written
   pub output : job.output ≡ None
@@ -227,7 +227,7 @@ pub record MayPublishJob {L D C : Type 0} (tells : Bool) (seen : D → Files) (n
   pub hold : IsTrue tells → HoldAll (seen v.store.known) job.metas job.held
   pub holds : (first : Past) → IsFound v first → HoldInputs v.tablet (takes_of job) (outputs_of job)
   pub passes : IsTrue tells → (rules : Rules) (first : Past) → IsContent rules v first → PlanPasses rules v.tablet.core.work → RowsetsPass rules (outputs_of job)
-  pub lent : MayBeLent tells seen now leaves v.store (next_super v) → is_small job.last_mem ≡ true → MayBeLent tells seen now leaves v.store (job_meta v job)
+  pub lent : MayBeLent tells seen now leaves v.store (next_super v) → is_small job.last_mem ≡ true → IsWithin v.store.first.most (job_meta v job) → MayBeLent tells seen now leaves v.store (job_meta v job)
 
 -- It may finish, while nothing flies: its superblock is the published one, and there is room for its outputs
 pub record MayFinish {L D C : Type 0} (v : EngineView L D C) (n : ℕ) (job : JobView) : Type 0 where

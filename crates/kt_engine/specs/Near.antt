@@ -5,6 +5,7 @@ use Rattle.kt_history.specs.declared.target.Target.{Target}
 use Rattle.kt_history.specs.declared.target.Target.TheVariants.{Mem, Delta}
 use Rattle.kt_records.specs.declared.entry.Entry.{Entry}
 use Rattle.kt_records.specs.declared.entry.Entry.TheVariants.{Replicate, Commit}
+use Rattle.kt_storeside.specs.Sides.{Most}
 
 -- the number of the MemRowSet that takes inserts
 abbrev pub first_number : List Target → ℕ
@@ -46,6 +47,11 @@ pub record AreNear (found names : List Target) (first_rowset next_rowset begun :
   pub mems : first_number names ≤ first_number found + begun
   pub jobs : begun ≤ 2 ^ 24
   pub rowsets : next_rowset ≤ first_rowset + most_rowsets
+
+-- What the store lets a superblock spell leaves room for the names of these stores: for the MemRowSets that so many jobs freeze, and for the DeltaMemStores.
+pub record LeavesRoom (found : List Target) (first_rowset : ℕ) (most : Most) : Type 0 where
+  pub mems : first_number found + 2 ^ 24 ≤ most.last_mem
+  pub deltas : most_deltas first_rowset ≤ most.last_dms
 
 -- no number of a name is greater, and each is less
 abbrev pub IsUpTo : ℕ → Target → Type 0

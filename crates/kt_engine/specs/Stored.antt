@@ -26,7 +26,7 @@ use Rattle.kt_storeside.specs.Next.{next_meta}
 use Rattle.kt_engine.specs.declared.store.Purpose.{Purpose}
 use Rattle.kt_engine.specs.declared.store.Purpose.TheVariants as purpose
 use Rattle.kt_engine.specs.Memory.{name_of}
-use Rattle.kt_engine.specs.Near.{AreNear, first_number, most_files}
+use Rattle.kt_engine.specs.Near.{AreNear, LeavesRoom, first_number, most_files}
 use Rattle.kt_engine.specs.Over.{Over, over_at, names_over, core_over}
 use Rattle.kt_engine.specs.Jobs.{JobView, JobOn, job_of, over_in}
 use Rattle.kt_engine.specs.declared.upkeep.Stage.TheVariants as stage
@@ -88,7 +88,7 @@ abbrev pub AreOutside : {L D C : Type 0} → EngineView L D C → List Entry →
 AreOutside view records = (n : ℕ) (job : JobView) → job_of n view.upkeep ≡ Some job → job.stage ≡ stage.Outside → IsOutside view.tablet view.store.meta view.store.lent view.upkeep records job
 
 -- Beside a log that stands: under each superblock that is published or lent the log keeps the run for each past that opening found, from the records on that were
--- durable as it was made, over the stores that it is told of. No record and no store has a number above those that the engine has given, and these lie near those that opening found. While a job publishes nothing flies. The files of each hold rowsets, those of the disk rowsets in memory among them, and each has the same columns, the mark that opening
+-- durable as it was made, over the stores that it is told of. No record and no store has a number above those that the engine has given, and these lie near those that opening found, and within what the store lets a superblock spell. While a job publishes nothing flies. The files of each hold rowsets, those of the disk rowsets in memory among them, and each has the same columns, the mark that opening
 -- found or that of a `mark` line, none above that of the run, and no later last timestamp than the run. A job that is outside finds its disk rowsets with what it took. The store went out with no fewer faults than were handed in.
 pub record IsStored {L D C : Type 0} (log_tells : Bool) (log_seen : L → Files) (tells : Bool) (seen : D → Files) (faults : D → ℕ) (view : EngineView L D C) : Type 0 where
   pub run : List Entry
@@ -101,6 +101,7 @@ pub record IsStored {L D C : Type 0} (log_tells : Bool) (log_seen : L → Files)
   pub names_below : StoresBelow (numbers_of view) (map name_of view.tablet.names)
   pub near : AreNear view.found view.tablet.names view.first_rowset view.store.next_rowset view.upkeep.begun run
   pub files_near : view.store.next_file ≤ view.first_file + most_files
+  pub room : LeavesRoom view.found view.first_rowset view.store.first.most
   pub rests : (view.upkeep.publishing ≡ None) ⊎ (view.tablet.core.aloft ≡ [])
   pub jobs : (n : ℕ) (job : JobView) → job_of n view.upkeep ≡ Some job → JobOn (view.records ++ run) job
   pub outside : AreOutside view (view.records ++ run)

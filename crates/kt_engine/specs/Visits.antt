@@ -11,7 +11,7 @@ use Rattle.kt_history.specs.Stores.{Store}
 use Rattle.kt_histlaws.specs.Parts.{SessionPart, part}
 use Rattle.kt_content.specs.Places.{Super}
 use Rattle.kt_tablet.specs.Views.{place_at}
-use Rattle.kt_storeside.specs.Sides.{StoreView}
+use Rattle.kt_storeside.specs.Sides.{StoreView, Beginning}
 use Rattle.kt_schema.specs.declared.column.Column.{Column}
 use Rattle.kt_engine.specs.Engines.{EngineView}
 use Rattle.kt_engine.specs.Sessions.{runs}
@@ -62,7 +62,7 @@ pub record Root (L D C : Type 0) : Type 0 where
   pub found : List Target
   pub first_rowset : ℕ
   pub first_file : ℕ
-  pub first_store : D
+  pub first_store : Beginning D
 
 abbrev pub root_of : {L D C : Type 0} → EngineView L D C → Root L D C
 root_of view = record {

@@ -22,7 +22,7 @@ ghost use Rattle.kt_reopen.specs.Both.{super_in};
 ghost use Rattle.kt_reopen.specs.Opened.{AreReadOf};
 ghost use Rattle.kt_storeside.specs.Sides.{IsSide, SpellMade};
 ghost use Rattle.kt_engine.specs.Engines.{EngineView, IsEngine, IsLogged, IsHome, KeepsOthers, TellsStop, LeavesRecords, Recovers, RecoversEach, RecoversAll, are_whole};
-ghost use Rattle.kt_engine.specs.Near.{first_number};
+ghost use Rattle.kt_engine.specs.Near.{first_number, LeavesRoom};
 ghost use Rattle.kt_engine.specs.Stored.{next_given, AreMarked, IsStored, RecoversPair, RecoversBoth, HasFailed};
 ghost use Rattle.kt_engine.specs.Jobs.{no_upkeep};
 ghost use Rattle.kt_engine.specs.Over.{AreShelved};
@@ -157,6 +157,8 @@ impl<L: Disk, D: Disk + Drop, C: Clock> Engine<L, D, C> {
         requires filed { (held : List HeldFiles) × AreEachNamed store.meta.rowsets held × AreReadOf held tablet.files × (IsTrue D.tells → HoldAll (D.seen store.known) store.meta.rowsets held) }
         requires mark { (store.meta.a ≡ tablet.mark) × (tablet.core.a ≡ tablet.mark) }
         requires clock { store.meta.c ≤ tablet.core.c }
+        // Its superblocks may spell the names of the stores that come.
+        requires room { LeavesRoom tablet.names store.next_rowset store.first.most }
         requires store_faults { D.faults found.store.value ≤ D.faults store.known }
         ensures view { IfOk result (λ engine. engine ≡ record {
           tablet = tablet;

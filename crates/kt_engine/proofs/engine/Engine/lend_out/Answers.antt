@@ -1,9 +1,12 @@
-use Rattle.std.proofs.Common.{refl, sym, ap, ◌∙◌}
+use Rattle.std.proofs.Common.{refl, sym, ap, ◌∙◌, subst}
+use Rattle.kt_engine.specs.Engines.{EngineView}
+use Rattle.kt_engine.specs.Stored.{IsStored}
 use Rattle.kt_engine.proofs.Devices.{store_keeps, both_whole}
 use Rattle.kt_engine.proofs.Outsiders.{none_is_outside}
 use Rattle.kt_engine.proofs.StoreEvents.{lent_stored}
 use Rattle.kt_engine.proofs.StorePurposes.{lent_is_next, publishes_settled, may_publish}
 use Rattle.kt_engine.proofs.Visiting.{visit_of, turn_out_visit}
+use Rattle.kt_engine.proofs.Within.{job_within}
 use Rattle.kt_engine.proofs.engine.Engine.lend_out.Goals as goal
 
 pub invariant_of-self : goal.invariant_of-self
@@ -17,6 +20,14 @@ invariant_of-self g c =
           (λ m is. let rest = (rw old at c.requires.settled) (publishes_settled c.args.number c.args.purpose _ c.in_ok-meta.meta meta m is) in (rest.0, rest.1, (rw old at c.requires.free) (publishes_settled c.args.number c.args.purpose _ c.in_ok-meta.meta meta m is)))
           (λ m is. none_is_outside c.self.inside.upkeep ((rw old at c.requires.inside) (publishes_settled c.args.number c.args.purpose _ c.in_ok-meta.meta meta m is))) (rw c.deref.ensures at c.standing.ensures.sound.stands),
     )
+
+-- the superblock of a job lies within the bounds of the store
+pub meta_for-requires : goal.meta_for-requires
+meta_for-requires g c =
+    let is = subst (λ (v : EngineView _ _ _). IsStored g.L.Disk.tells g.L.Disk.seen g.D.Disk.tells g.D.Disk.seen g.D.Disk.faults v) c.self.view_is c.self.invariant.1 in
+    record {
+      job = λ job goes has next small. (let may = c.requires.job job goes has in may.lent next small (job_within c.args.self.now job is.run c.args.self.now.store.first.most is.room is.near may.takes may.named may.first_dms next.within));
+    }
 
 -- what goes out may be published
 pub returns-clause-ready : goal.returns-clause-ready

@@ -13,7 +13,7 @@ invariant_of-result g c =
     (is_opened g.L.Disk.tells g.L.Disk.seen g.L.Disk.now g.L.Disk.leaves g.L.Disk.faults c.args.tablet c.args.journal f.records.now f.superblock.now c.args.queued c.args.store f.store.value f.device.value r.store_home.2
     r.fresh.0 r.fresh.1 r.fresh.2 c.standing.ensures.placed r.named r.shelved r.log r.commits r.taken_up r.numbers r.untold r.since r.last r.names r.count r.reads r.openable r.others r.faults)
     (store_opened g.L.Disk.tells g.L.Disk.seen g.D.Disk.tells g.D.Disk.seen g.D.Disk.faults c.args.tablet c.args.journal f.records.now f.superblock.now c.args.queued c.args.store f.store.value f.device.value
-    r.fresh.0 r.fresh.1 r.log r.commits r.taken_up r.numbers r.untold r.since r.last r.count r.reads r.store_home.1 r.superblock r.filed r.mark r.clock r.named r.deltas r.names r.store_faults (λ disk at. c.standing-2.ensures.whole r.store_home.2 disk at))
+    r.fresh.0 r.fresh.1 r.log r.commits r.taken_up r.numbers r.untold r.since r.last r.count r.reads r.store_home.1 r.superblock r.filed r.mark r.clock r.named r.deltas r.names r.store_faults (λ disk at. c.standing-2.ensures.whole r.store_home.2 disk at) r.room)
 
 pub boxed_log-requires : goal.boxed_log-requires
 boxed_log-requires g c = record { usable = c.requires.usable; durable = c.requires.durable }
