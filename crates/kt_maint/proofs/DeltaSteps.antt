@@ -23,7 +23,7 @@ use Rattle.kt_outputs.specs.InPlace.{entry_of, KeepsRowset, a_rewritten_rowset_c
 use Rattle.kt_merge.specs.Rewriting.{IsRewritten, AddsFile, AddsRedo, MergesRedos, FoldsRedos}
 use Rattle.kt_deltafile.specs.File.{FileView}
 use Rattle.kt_diskrowset.specs.Rowset.{HeldFiles}
-use Rattle.kt_storeside.specs.Sides.{StoreView, MayBeLent, IsSide}
+use Rattle.kt_storeside.specs.Sides.{StoreView, MayBeLent, IsWithin, IsSide}
 use Rattle.kt_storeside.proofs.Named.{first_file}
 use Rattle.kt_pick.specs.declared.rules.Want.{Want}
 use Rattle.kt_pick.specs.declared.rules.Want.TheVariants as want
@@ -175,8 +175,8 @@ handed_as n job outputs out a b alone h =
 module _ {L D C : Type 0} (tells : Bool) (seen : D → Files) (now : D → ℕ) (leaves : D → ℕ → Files → Type 0) (faults : D → ℕ) where
   module _ (a c : EngineView L D C) (d out : RowSetData) (dms : ℕ) (side : IsSide tells seen now leaves faults a.store) (files : HasRewritten tells seen now leaves a.store c.store d out)
       (old_entry : MetaRowset) (there : entry_of out.number c.store.meta.rowsets ≡ Some old_entry) (keeps : KeepsRowset a.store.next_file c.store.next_file old_entry (meta_in dms out)) where
-    in_place_lent : a_rewritten_rowset_comes_in_place → a_rewritten_rowset_stands_in_place → MayBeLent tells seen now leaves c.store (next_super c) → is_small dms ≡ true → MayBeLent tells seen now leaves c.store (delta_meta c dms out)
-    in_place_lent comes stands may small =
+    in_place_lent : a_rewritten_rowset_comes_in_place → a_rewritten_rowset_stands_in_place → MayBeLent tells seen now leaves c.store (next_super c) → is_small dms ≡ true → IsWithin c.store.first.most (delta_meta c dms out) → MayBeLent tells seen now leaves c.store (delta_meta c dms out)
+    in_place_lent comes stands may small within =
         let low : 3 ≤ a.store.next_file = (let x = first_file a.store.meta side.rules in let y = side.files in omega arith) in
         let old : AreRowsets a.store.meta.next_rowset a.store.meta.next_file 0 [] c.store.meta.rowsets =
         subst (λ (m : Meta). AreRowsets a.store.meta.next_rowset a.store.meta.next_file 0 [] m.rowsets) (sym files.meta) side.rules.rowsets in
@@ -200,6 +200,7 @@ module _ {L D C : Type 0} (tells : Bool) (seen : D → Files) (now : D → ℕ) 
             rowsets = may.next.rowsets;
             files = may.next.files;
           };
+          within = within;
           files = λ told image left. stands c.store.meta.rowsets a.store.next_file c.store.next_file old_entry (meta_in dms out) (seen c.store.known) image there keeps (files.stable told image left) (may.files told image left);
         }
 

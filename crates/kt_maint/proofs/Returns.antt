@@ -26,7 +26,7 @@ use Rattle.kt_outputs.specs.declared.outputs.WriteNo.TheVariants as write_no
 use Rattle.kt_outputs.proofs.Written.{left_none}
 use Rattle.kt_joblaws.specs.Written.{named_rowsets_tell}
 use Rattle.kt_storeside.specs.declared.side.Lent.{Lent}
-use Rattle.kt_storeside.specs.Sides.{StoreView, MayBeLent}
+use Rattle.kt_storeside.specs.Sides.{StoreView, MayBeLent, IsWithin}
 use Rattle.kt_stores.specs.Takes.{Takes, mems, rowsets}
 use Rattle.kt_pick.specs.declared.rules.Want.{Want}
 use Rattle.kt_engine.specs.declared.job.MaintNo.{MaintNo}
@@ -165,8 +165,8 @@ module _ {L D C : Type 0} (tells : Bool) (seen : D → Files) (now : D → ℕ) 
   left_stand (mems last) image is = is
   left_stand (rowsets taken) image is = still _ a.store.meta.rowsets (seen a.store.known) image is
 
-  may_be_lent : MayBeLent tells seen now leaves b.store (next_super b) → is_small job.last_mem ≡ true → MayBeLent tells seen now leaves b.store (job_meta b job)
-  may_be_lent next small = record {
+  may_be_lent : MayBeLent tells seen now leaves b.store (next_super b) → is_small job.last_mem ≡ true → IsWithin b.store.first.most (job_meta b job) → MayBeLent tells seen now leaves b.store (job_meta b job)
+  may_be_lent next small within = record {
     next = record {
       rules = record {
         number = next.next.rules.number;
@@ -186,6 +186,7 @@ module _ {L D C : Type 0} (tells : Bool) (seen : D → Files) (now : D → ℕ) 
       rowsets = next.next.rowsets;
       files = next.next.files;
     };
+    within = within;
     files = λ told image stays. may.stand told image stays (left_stand (takes_of job) image (next.files told image stays));
   }
 

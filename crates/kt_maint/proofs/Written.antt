@@ -28,7 +28,7 @@ use Rattle.kt_outputs.specs.Fewer.{some_may_be_named, some_stand}
 use Rattle.kt_outputs.specs.Outputs.{meta_in, AreWritten}
 use Rattle.kt_outputs.specs.Named.{outputs_come_behind, outputs_stand}
 use Rattle.kt_joblaws.specs.Written.{written_rowsets_are_the_same, written_rowsets_pass, named_rowsets_tell}
-use Rattle.kt_storeside.specs.Sides.{StoreView, MayBeLent, IsSide}
+use Rattle.kt_storeside.specs.Sides.{StoreView, MayBeLent, IsWithin, IsSide}
 use Rattle.kt_storeside.proofs.Named.{first_file}
 use Rattle.kt_tablet.specs.Views.{View, Opens}
 use Rattle.kt_stores.specs.Takes.{Takes, mems, rowsets}
@@ -151,8 +151,8 @@ module _ {L D C : Type 0} (tells : Bool) (seen : D → Files) (now : D → ℕ) 
     last_small (mems last) same small was = subst (λ (n : ℕ). is_small n ≡ true) (sym (last_is has.at.job.taken last has.at.job.last_mem same)) small
     last_small (rowsets taken) same small was = was
 
-    may_be_lent : outputs_come_behind → outputs_stand → some_may_be_named → some_stand → MayBeLent tells seen now leaves c.store (next_super c) → is_small has.at.job.last_mem ≡ true → MayBeLent tells seen now leaves c.store (job_meta c has.at.job)
-    may_be_lent behind stand fewer still may small =
+    may_be_lent : outputs_come_behind → outputs_stand → some_may_be_named → some_stand → MayBeLent tells seen now leaves c.store (next_super c) → is_small has.at.job.last_mem ≡ true → IsWithin c.store.first.most (job_meta c has.at.job) → MayBeLent tells seen now leaves c.store (job_meta c has.at.job)
+    may_be_lent behind stand fewer still may small within =
         let t = takes_of has.at.job in
         let left = metas_left t c.store.meta.rowsets in
         record {
@@ -178,6 +178,7 @@ module _ {L D C : Type 0} (tells : Bool) (seen : D → Files) (now : D → ℕ) 
             rowsets = may.next.rowsets;
             files = may.next.files;
           };
+          within = within;
           files = λ told image stays. subst (λ (ms : List MetaRowset). HasNamed (left ++ ms) (seen c.store.known) image) (sym has.metas)
               (stand left a.store.next_file c.store.next_file out (seen c.store.known) image files.numbered (files.stable told image stays) (left_stand t image still (may.files told image stays)));
         }
