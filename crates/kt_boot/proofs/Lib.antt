@@ -4,3 +4,4 @@ pub mod Owed
 pub mod Taken
 pub mod Vacant
 pub mod OneAnswer
+pub mod Room

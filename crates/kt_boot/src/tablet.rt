@@ -11,6 +11,7 @@ ghost use Rattle.kt_diskrowset.specs.Rowset.{HeldFiles};
 ghost use Rattle.kt_files.specs.Named.{is_kept, named_in};
 ghost use Rattle.kt_files.specs.Reading.{HoldAll};
 ghost use Rattle.kt_storeside.specs.Supers.{NamedStand};
+ghost use Rattle.kt_storeside.specs.Sides.{most_from};
 ghost use Rattle.kt_content.specs.Rules.{Rules, AreRules};
 ghost use Rattle.kt_content.specs.Content.{IsContent as HoldsPast};
 ghost use Rattle.kt_tablet.specs.Views.{work_of};
@@ -20,6 +21,7 @@ ghost use Rattle.kt_reopen.specs.Holding.{HoldBoth, KeepsContent, IsOfStore};
 ghost use Rattle.kt_reopen.specs.Numbers.{next_rowset};
 ghost use Rattle.kt_reopen.specs.Opened.{first_meta, IsRefusal, OneRose};
 ghost use Rattle.kt_engine.specs.Engines.{IsContent};
+ghost use Rattle.kt_engine.specs.Near.{first_number};
 ghost use Rattle.kt_boot.specs.Opening.{StandsOn};
 
 use kt_base::Clock;
@@ -95,11 +97,11 @@ pub fn open_tablet<L: Disk, D: Disk + Drop, C: Clock>(
     ensures removed { IfOk result (λ engine. IsTrue D.tells → (n : ℕ) → is_kept (named_in engine.store.meta.rowsets) n ≡ false → D.seen engine.store.known n ≡ None) }
     ensures stable { IfOk result (λ engine. IsTrue D.tells → AreStable D.seen D.now D.leaves engine.store.known) }
 
-    // It knows the names of its stores, the numbers that it begins with, and the store as opening left it.
+    // It knows the names of its stores, the numbers that it begins with, the store as opening left it, and how great the numbers of a superblock may grow.
     ensures names { IfOk result (λ engine. engine.found ≡ engine.tablet.names) }
     ensures first_rowset { IfOk result (λ engine. engine.first_rowset ≡ engine.store.next_rowset) }
     ensures first_file { IfOk result (λ engine. engine.first_file ≡ engine.store.next_file) }
-    ensures first_store { IfOk result (λ engine. engine.store.first ≡ engine.store.known) }
+    ensures first_store { IfOk result (λ engine. engine.store.first ≡ record { device = engine.store.known; most = most_from engine.store.meta (first_number engine.tablet.names) engine.store.next_rowset }) }
 
     // A rowset gets a number that neither the superblock nor a COMMIT of the log has named, and a file one that the superblock gives next.
     ensures next { IfOk result (λ engine. (engine.store.next_rowset ≡ next_rowset engine.store.meta.next_rowset engine.records) × (engine.store.next_file ≡ engine.store.meta.next_file)) }
@@ -160,7 +162,8 @@ pub fn open_tablet<L: Disk, D: Disk + Drop, C: Clock>(
         Err((_, clock)) => return Err(given_up(journal, store, clock)),
     };
     let next_file = meta.next_file;
-    let side = StoreSide::of(store, meta, next_rowset, next_file);
+    let mem = tablet.active_number();
+    let side = StoreSide::of(store, meta, next_rowset, next_file, mem);
     let found = Found {
         records: &records,
         superblock: &superblock,

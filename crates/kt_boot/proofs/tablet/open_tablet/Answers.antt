@@ -12,6 +12,8 @@ use Rattle.kt_pool.specs.Contents.{free}
 use Rattle.kt_engine.specs.Logged.{TakesUp, NamesOnly}
 use Rattle.kt_engine.specs.Memory.{AreNamed}
 use Rattle.kt_engine.proofs.Others.{opened_others}
+use Rattle.kt_engine.proofs.JobBegins.{first_is}
+use Rattle.kt_storeside.specs.Sides.{Beginning, most_from}
 use Rattle.kt_disk.specs.Disk.{LeavesOnly}
 use Rattle.kt_reopen.specs.Holding.{KeepsContent, IsOfStore}
 use Rattle.kt_reopen.specs.Numbers.{next_rowset}
@@ -21,6 +23,7 @@ use Rattle.kt_boot.proofs.OneAnswer.{answers_once}
 use Rattle.kt_reopen.proofs.Held.{content_found}
 use Rattle.kt_reopen.proofs.Taking.{some_is}
 use Rattle.kt_super.specs.Body.{IsMeta}
+use Rattle.kt_boot.proofs.Room.{begins_with_room}
 use Rattle.kt_boot.proofs.Vacant.{not_kept}
 use Rattle.kt_boot.proofs.Taken.{commits_are, untold_are, named_are, names_only, deltas_named, numbers_are, shelved_are, last_ends, takes_up, opens_it}
 use Rattle.kt_boot.proofs.tablet.open_tablet.Goals as goal
@@ -131,6 +134,13 @@ of-requires-2-clause-last g c =
     let behind = last_ends c.args.schema.now found.0 p.meta p.records p.queued p.stores p.last p.next_rowset found.2 in
     let at = c.in-Ok-of.ensures.times.1 in
     omega arith
+
+-- its superblocks may spell the names of the stores that come
+pub of-requires-2-clause-room : goal.of-requires-2-clause-room
+of-requires-2-clause-room g c =
+    let p = c.in-Ok.opened in
+    let mem = first_is c.in-Ok-of.tablet.names c.active_number-mem.result c.active_number-mem.ensures in
+    rw (c.of-side.ensures) (begins_with_room p.meta c.active_number-mem.result p.next_rowset c.in-Ok-of.tablet.names mem)
 
 pub of-requires-2-clause-names : goal.of-requires-2-clause-names
 of-requires-2-clause-names g c =
@@ -368,4 +378,6 @@ returns-in-Ok-of-2-clause-first_file g c =
 pub returns-in-Ok-of-2-clause-first_store : goal.returns-in-Ok-of-2-clause-first_store
 returns-in-Ok-of-2-clause-first_store g c =
     let store : c.in-Ok-of-2.engine.store ≡ c.of-side.result = ap (λ e. e.store) c.in-Ok-of-2.ensures.view in
-    rw (store, c.of-side.ensures) refl
+    let names : c.in-Ok-of-2.engine.tablet.names ≡ c.in-Ok-of.tablet.names = ap (λ e. e.tablet.names) c.in-Ok-of-2.ensures.view in
+    let mem = first_is c.in-Ok-of.tablet.names c.active_number-mem.result c.active_number-mem.ensures in
+    rw (store, names, c.of-side.ensures) (ap (λ (n : ℕ). let b : Beginning _ = record { device = c.open_devices.new.store; most = most_from c.in-Ok.opened.meta n c.in-Ok.opened.next_rowset } in b) mem)
