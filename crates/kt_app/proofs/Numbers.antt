@@ -1,7 +1,7 @@
 -- The files beside the log, and the numbers that a run adds to those that both devices had.
 use Rattle.std.proofs.Common.{◌≡◌, ℕ, ◌+◌, ◌<◌, ◌≤◌, max, List, [], ◌∷◌, ◌++◌, map, length, zero, suc, Option, Some, None, Result, Ok, Err, inl, inr, refl, sym, ap, subst, ◌∙◌, arith, Bool, true, false, cond, leb, ltb, ◌&&◌}
 use Rattle.std.specs.Prelude.{◌⊎◌, IsTrue, ◌^◌, ◌==◌, nat_lt, unwrap_or}
-use Rattle.std.specs.List.{All, Contains, flat_map}
+use Rattle.std.specs.List.{All, AllByRecursion, Contains, flat_map}
 use Rattle.std.proofs.lemmas.List.Elements.{All-nil, All-cons, All-head, All-tail, All-append, All-contains, Contains-append_cases, Contains-append_left, Contains-append_right}
 use Rattle.std.proofs.lemmas.Bool.{ltb-true}
 use Rattle.std.proofs.lemmas.Grind.{flat_map-append}
@@ -38,13 +38,14 @@ use Rattle.kt_reopen.specs.Both.{Read, Found, Answers, AnswersLater, read_both, 
 use Rattle.kt_reopen.specs.Both.Answers.{at_once, first, later}
 use Rattle.kt_reopen.specs.Both.AnswersLater.{in_file, in_column, too_late, whole}
 use Rattle.kt_storeside.specs.Supers.{SpellNoOther}
+use Rattle.kt_storeside.specs.Sides.{Most, greatest_dms as dms_among, most_from}
 use Rattle.kt_reopen.specs.Holding.{IsOfStore}
 use Rattle.kt_reopen.specs.Opened.{found_of, first_meta}
 use Rattle.kt_reopen.specs.Numbers.{next_rowset, behind_rowsets, named_of, named_by, greatest_mem, greatest_dms, dms_under, name_of}
 use Rattle.kt_engine.specs.Engines.{KeepsOthers}
 use Rattle.kt_engine.specs.Logged.{HoldsRecords}
-use Rattle.kt_engine.specs.Near.{NamesEach, IsUpTo, IsBelow}
-use Rattle.kt_app.specs.Images.{Image, CrashLeaves, Both, KeepsFrames, KeepsFiles, IsSlotNumber, numbers_by, numbers_in as spelled, AreUpTo, given_by, given_in, IsGivenNumber, NumbersAreNear, IsMadeNear, SpellNear}
+use Rattle.kt_engine.specs.Near.{NamesEach, IsUpTo, IsBelow, first_number}
+use Rattle.kt_app.specs.Images.{Image, CrashLeaves, Both, KeepsFrames, KeepsFiles, IsSlotNumber, numbers_by, numbers_in as spelled, AreUpTo, NumbersAreNear, IsMadeNear, SpellNear}
 
 -- ---- the files beside the log
 
@@ -278,7 +279,7 @@ found_low b columns log store f low (first read e) =
 found_low b columns log store f low (later m records read behind) =
     later_low b columns m records store f (λ n has. low n (spelled_there store m n (its_super (super_of store) (log_of log) m records read) has)) behind
 
--- ---- the numbers of rowsets and files
+-- ---- the numbers of a superblock
 
 has_next : (m : Meta) → Contains (spelled m) m.next_rowset
 has_next m = has_rest m.number (m.last_mem ∷ m.next_rowset ∷ m.next_file ∷ flat_map numbers_by m.rowsets) m.next_rowset (has_rest m.last_mem (m.next_rowset ∷ m.next_file ∷ flat_map numbers_by m.rowsets) m.next_rowset (has_first m.next_rowset (m.next_file ∷ flat_map numbers_by m.rowsets)))
@@ -291,30 +292,7 @@ has_rows : (m : Meta) (n : ℕ) → Contains (flat_map numbers_by m.rowsets) n �
 has_rows m n has = has_rest m.number (m.last_mem ∷ m.next_rowset ∷ m.next_file ∷ flat_map numbers_by m.rowsets) n (has_rest m.last_mem (m.next_rowset ∷ m.next_file ∷ flat_map numbers_by m.rowsets) n
     (has_rest m.next_rowset (m.next_file ∷ flat_map numbers_by m.rowsets) n (has_rest m.next_file (flat_map numbers_by m.rowsets) n has)))
 
--- they are among all that it spells
-row_spelled : (r : MetaRowset) (n : ℕ) → Contains (given_by r) n → Contains (numbers_by r) n
-row_spelled r n has = elim (first_or r.rowset (r.base.file ∷ (files_of r.undo ++ files_of r.redo)) n has) [
-  | inl is ↦ subst (Contains (numbers_by r)) is (has_first r.rowset (r.last_dms ∷ r.base.file ∷ (files_of r.undo ++ files_of r.redo)))
-  | inr more ↦ has_rest r.rowset (r.last_dms ∷ r.base.file ∷ (files_of r.undo ++ files_of r.redo)) n (has_rest r.last_dms (r.base.file ∷ (files_of r.undo ++ files_of r.redo)) n more)
-]
-
-rows_spelled : (rs : List MetaRowset) (n : ℕ) → Contains (flat_map given_by rs) n → Contains (flat_map numbers_by rs) n
-rows_spelled [] n has = absurd (no_number n has)
-rows_spelled (r ∷ rs) n has = elim (Contains-append_cases (given_by r) (flat_map given_by rs) n has) [
-  | inl own ↦ Contains-append_left (numbers_by r) (flat_map numbers_by rs) n (row_spelled r n own)
-  | inr behind ↦ Contains-append_right (numbers_by r) (flat_map numbers_by rs) n (rows_spelled rs n behind)
-]
-
-given_spelled : (m : Meta) (n : ℕ) → Contains (given_in m) n → Contains (spelled m) n
-given_spelled m n has = elim (first_or m.next_rowset (m.next_file ∷ flat_map given_by m.rowsets) n has) [
-  | inl is ↦ subst (Contains (spelled m)) is (has_next m)
-  | inr more ↦ elim (first_or m.next_file (flat_map given_by m.rowsets) n more) [
-    | inl is ↦ subst (Contains (spelled m)) is (has_file m)
-    | inr rows ↦ has_rows m n (rows_spelled m.rowsets n rows)
-  ]
-]
-
--- and lie below those that a superblock gives next
+-- files lie below the number that a superblock gives next
 file_low : (next : ℕ) (taken : List ℕ) (f : FileRef) → IsFile next taken f → f.file < next
 file_low next taken f is = ltb-true f.file next (both_true (leb 3 f.file) _ (both_true (leb 3 f.file && ltb f.file next) _ is.0).0).1
 
@@ -325,67 +303,114 @@ files_low next taken (f ∷ files) n are has = elim (first_or f.file (files_of f
   | inr more ↦ files_low next (taken ++ f.file ∷ []) files n are.1 more
 ]
 
-row_low : (next_rowset next least : ℕ) (taken : List ℕ) (r : MetaRowset) (n : ℕ) → IsRowset next_rowset next least taken r → Contains (given_by r) n → (n < next_rowset) ⊎ (n < next)
-row_low next_rowset next least taken r n is has = elim (first_or r.rowset (r.base.file ∷ (files_of r.undo ++ files_of r.redo)) n has) [
-  | inl own ↦ inl (subst (λ x. x < next_rowset) own (ltb-true r.rowset next_rowset (both_true (leb least r.rowset) _ is.rowset).1))
-  | inr more ↦ elim (first_or r.base.file (files_of r.undo ++ files_of r.redo) n more) [
-    | inl base ↦ inr (subst (λ x. x < next) base (file_low next taken r.base is.base))
-    | inr behind ↦ elim (Contains-append_cases (files_of r.undo) (files_of r.redo) n behind) [
-      | inl undo ↦ inr (files_low next (taken ++ r.base.file ∷ []) r.undo n is.undo undo)
-      | inr redo ↦ inr (files_low next (taken ++ r.base.file ∷ [] ++ files_of r.undo) r.redo n is.redo redo)
+row_low : (next_rowset next least top : ℕ) (taken : List ℕ) (r : MetaRowset) (n : ℕ) → IsRowset next_rowset next least taken r → next_rowset ≤ top → next ≤ top → r.last_dms ≤ top → Contains (numbers_by r) n → n ≤ top
+row_low next_rowset next least top taken r n is rowset file dms has = elim (first_or r.rowset (r.last_dms ∷ r.base.file ∷ (files_of r.undo ++ files_of r.redo)) n has) [
+  | inl own ↦ (let low = ltb-true r.rowset next_rowset (both_true (leb least r.rowset) _ is.rowset).1 in omega (arith, own, low, rowset))
+  | inr rest ↦ elim (first_or r.last_dms (r.base.file ∷ (files_of r.undo ++ files_of r.redo)) n rest) [
+    | inl last ↦ omega (arith, last, dms)
+    | inr more ↦ elim (first_or r.base.file (files_of r.undo ++ files_of r.redo) n more) [
+      | inl base ↦ (let low = file_low next taken r.base is.base in omega (arith, base, low, file))
+      | inr behind ↦ elim (Contains-append_cases (files_of r.undo) (files_of r.redo) n behind) [
+        | inl undo ↦ (let low = files_low next (taken ++ r.base.file ∷ []) r.undo n is.undo undo in omega (arith, low, file))
+        | inr redo ↦ (let low = files_low next (taken ++ r.base.file ∷ [] ++ files_of r.undo) r.redo n is.redo redo in omega (arith, low, file))
+      ]
     ]
   ]
 ]
 
-rows_low : (next_rowset next least : ℕ) (taken : List ℕ) (rs : List MetaRowset) (n : ℕ) → AreRowsets next_rowset next least taken rs → Contains (flat_map given_by rs) n → (n < next_rowset) ⊎ (n < next)
-rows_low next_rowset next least taken [] n are has = absurd (no_number n has)
-rows_low next_rowset next least taken (r ∷ rs) n are has = elim (Contains-append_cases (given_by r) (flat_map given_by rs) n has) [
-  | inl own ↦ row_low next_rowset next least taken r n are.0 own
-  | inr behind ↦ rows_low next_rowset next (r.rowset + 1) (taken_by taken r) rs n are.1 behind
+rows_low : (next_rowset next least most top : ℕ) (taken : List ℕ) (rs : List MetaRowset) (n : ℕ) → AreRowsets next_rowset next least taken rs → next_rowset ≤ top → next ≤ top → AllByRecursion (λ (r : MetaRowset). r.last_dms ≤ most) rs → most ≤ top → Contains (flat_map numbers_by rs) n → n ≤ top
+rows_low next_rowset next least most top taken [] n are rowset file dms up has = absurd (no_number n has)
+rows_low next_rowset next least most top taken (r ∷ rs) n are rowset file dms up has = elim (Contains-append_cases (numbers_by r) (flat_map numbers_by rs) n has) [
+  | inl own ↦ row_low next_rowset next least top taken r n are.0 rowset file (let low = dms.0 in omega (arith, low, up)) own
+  | inr behind ↦ rows_low next_rowset next (r.rowset + 1) most top (taken_by taken r) rs n are.1 rowset file dms.1 up behind
 ]
 
-given_low : (m : Meta) (n : ℕ) → IsMeta m → Contains (given_in m) n → (n ≤ m.next_rowset) ⊎ (n ≤ m.next_file)
-given_low m n rules has = elim (first_or m.next_rowset (m.next_file ∷ flat_map given_by m.rowsets) n has) [
-  | inl is ↦ inl (omega arith)
-  | inr more ↦ elim (first_or m.next_file (flat_map given_by m.rowsets) n more) [
-    | inl is ↦ inr (omega arith)
-    | inr rows ↦ elim (rows_low m.next_rowset m.next_file 0 [] m.rowsets n rules.rowsets rows) [ inl low ↦ inl (omega arith) | inr low ↦ inr (omega arith) ]
+-- no number of a superblock is greater than these
+spelled_low : (m : Meta) (most top n : ℕ) → IsMeta m → m.number ≤ top → m.last_mem ≤ top → m.next_rowset ≤ top → m.next_file ≤ top → AllByRecursion (λ (r : MetaRowset). r.last_dms ≤ most) m.rowsets → most ≤ top → Contains (spelled m) n → n ≤ top
+spelled_low m most top n rules number mem rowset file dms up has = elim (first_or m.number (m.last_mem ∷ m.next_rowset ∷ m.next_file ∷ flat_map numbers_by m.rowsets) n has) [
+  | inl own ↦ omega (arith, own, number)
+  | inr rest ↦ elim (first_or m.last_mem (m.next_rowset ∷ m.next_file ∷ flat_map numbers_by m.rowsets) n rest) [
+    | inl last ↦ omega (arith, last, mem)
+    | inr more ↦ elim (first_or m.next_rowset (m.next_file ∷ flat_map numbers_by m.rowsets) n more) [
+      | inl next ↦ omega (arith, next, rowset)
+      | inr behind ↦ elim (first_or m.next_file (flat_map numbers_by m.rowsets) n behind) [
+        | inl next ↦ omega (arith, next, file)
+        | inr rows ↦ rows_low m.next_rowset m.next_file 0 most top [] m.rowsets n rules.rowsets rowset file dms up rows
+      ]
+    ]
   ]
 ]
 
--- a superblock that a run made
-made_low : (first_rowset first_file bound : ℕ) (m : Meta) (n : ℕ) → IsMadeNear first_rowset first_file m → first_rowset ≤ bound + 1 → first_file ≤ bound → Contains (given_in m) n → n < bound + 2 ^ 45
-made_low first_rowset first_file bound m n made rowset file has = elim (given_low m n made.rules has) [ inl low ↦ omega (arith, low, made.rowsets) | inr low ↦ omega (arith, low, made.files) ]
+-- bounds that lie near a number
+pub record AreNearMost (bound : ℕ) (most : Most) : Type 0 where
+  pub number : most.number ≤ bound + 2 ^ 44
+  pub last_mem : most.last_mem ≤ bound + 1 + 2 ^ 24
+  pub last_dms : most.last_dms ≤ bound + 1 + 2 ^ 44
 
--- such a number is one that the slot spells
-given_slot : (files : Files) (n : ℕ) → IsGivenNumber files n → IsSlotNumber files n
-given_slot files n g = record { slot = g.slot; is_slot = g.is_slot; superblock = g.superblock; spells = g.spells; has = given_spelled g.superblock n g.has }
+-- a superblock that a run made
+made_low : (first_rowset first_file bound : ℕ) (most : Most) (m : Meta) (n : ℕ) → IsMadeNear first_rowset first_file most m → AreNearMost bound most → first_rowset ≤ bound + 1 → first_file ≤ bound → Contains (spelled m) n → n < bound + 2 ^ 45
+made_low first_rowset first_file bound most m n made near rowset file has =
+    let number = made.within.number in
+    let mem = made.within.last_mem in
+    let given = made.rowsets in
+    let files = made.files in
+    let number_near = near.number in
+    let mem_near = near.last_mem in
+    let dms_near = near.last_dms in
+    let le : n ≤ bound + 35184372088831 = spelled_low m most.last_dms (bound + 35184372088831) n made.rules (omega (arith, number, number_near)) (omega (arith, mem, mem_near)) (omega (arith, given, rowset)) (omega (arith, files, file)) made.within.last_dms (omega (arith, dms_near)) has in
+    omega (arith, le)
 
 -- files whose slots spell what others do, or the first superblock, have none that is greater
-pub given_up : (columns : List Column) (image c : Files) (bound : ℕ) → 3 ≤ bound → SpellNoOther image (first_meta columns) c → ((k : ℕ) → IsSlotNumber image k → k ≤ bound) → (n : ℕ) → IsGivenNumber c n → n ≤ bound
-given_up columns image c bound three no_other up n g = elim (no_other g.slot g.is_slot g.superblock g.spells) [
-  | inl was ↦ up n (record { slot = g.slot; is_slot = g.is_slot; superblock = g.superblock; spells = was; has = given_spelled g.superblock n g.has })
+pub slots_up : (columns : List Column) (image c : Files) (bound : ℕ) → 3 ≤ bound → SpellNoOther image (first_meta columns) c → ((k : ℕ) → IsSlotNumber image k → k ≤ bound) → (n : ℕ) → IsSlotNumber c n → n ≤ bound
+slots_up columns image c bound three no_other up n g = elim (no_other g.slot g.is_slot g.superblock g.spells) [
+  | inl was ↦ up n (record { slot = g.slot; is_slot = g.is_slot; superblock = g.superblock; spells = was; has = g.has })
   | inr new ↦
-      let has : Contains (1 ∷ 3 ∷ []) n = subst (λ (m : Meta). Contains (given_in m) n) new g.has in
-      elim (first_or 1 (3 ∷ []) n has) [
+      let has : Contains (1 ∷ 0 ∷ 1 ∷ 3 ∷ []) n = subst (λ (m : Meta). Contains (spelled m) n) new g.has in
+      elim (first_or 1 (0 ∷ 1 ∷ 3 ∷ []) n has) [
         | inl is ↦ omega arith
-        | inr more ↦ elim (first_or 3 [] n more) [ inl is ↦ omega arith | inr none ↦ absurd (no_number n none) ]
+        | inr more ↦ elim (first_or 0 (1 ∷ 3 ∷ []) n more) [
+          | inl is ↦ omega arith
+          | inr rest ↦ elim (first_or 1 (3 ∷ []) n rest) [
+            | inl is ↦ omega arith
+            | inr last ↦ elim (first_or 3 [] n last) [ inl is ↦ omega arith | inr none ↦ absurd (no_number n none) ]
+          ]
+        ]
       ]
 ]
 
 -- and those of files that a run leaves are near
-given_near : (first_rowset first_file bound : ℕ) (old files : Files) → SpellNear first_rowset first_file old files → first_rowset ≤ bound + 1 → first_file ≤ bound → ((k : ℕ) → IsGivenNumber old k → k ≤ bound) → (n : ℕ) → IsGivenNumber files n → n < bound + 2 ^ 45
-given_near first_rowset first_file bound old files near rowset file low n g = elim (near g.slot g.is_slot g.superblock g.spells) [
-  | inl was ↦ (let le = low n (record { slot = g.slot; is_slot = g.is_slot; superblock = g.superblock; spells = was; has = g.has }) in omega arith)
-  | inr made ↦ made_low first_rowset first_file bound g.superblock n made rowset file g.has
+slots_near : (first_rowset first_file bound : ℕ) (most : Most) (old files : Files) → SpellNear first_rowset first_file most old files → AreNearMost bound most → first_rowset ≤ bound + 1 → first_file ≤ bound → ((k : ℕ) → IsSlotNumber old k → k ≤ bound) → (n : ℕ) → IsSlotNumber files n → n < bound + 2 ^ 45
+slots_near first_rowset first_file bound most old files spell near rowset file low n g = elim (spell g.slot g.is_slot g.superblock g.spells) [
+  | inl was ↦ (let le = low n (record { slot = g.slot; is_slot = g.is_slot; superblock = g.superblock; spells = was; has = g.has }) in omega (arith, le))
+  | inr made ↦ made_low first_rowset first_file bound most g.superblock n made near rowset file g.has
 ]
 
 -- the next file number of the superblock that files have
-pub next_given : (files : Files) (m : Meta) → super_of files ≡ Ok (Some m) → IsGivenNumber files m.next_file
-next_given files m is = elim (slots_spell (slot_at 1 (held files 1)) (slot_at 2 (held files 2)) m is) [
-  | inl one ↦ record { slot = 1; is_slot = inl refl; superblock = m; spells = one; has = has_rest m.next_rowset (m.next_file ∷ flat_map given_by m.rowsets) m.next_file (has_first m.next_file (flat_map given_by m.rowsets)) }
-  | inr two ↦ record { slot = 2; is_slot = inr refl; superblock = m; spells = two; has = has_rest m.next_rowset (m.next_file ∷ flat_map given_by m.rowsets) m.next_file (has_first m.next_file (flat_map given_by m.rowsets)) }
-]
+pub next_spelled : (files : Files) (m : Meta) → super_of files ≡ Ok (Some m) → IsSlotNumber files m.next_file
+next_spelled files m is = spelled_there files m m.next_file is (has_file m)
+
+-- the bounds that a store begins with lie near the numbers of its superblock, of the MemRowSet and of the rowset that come next
+dms_low_among : (least top : ℕ) (rs : List MetaRowset) → least ≤ top → ((k : ℕ) → Contains (flat_map numbers_by rs) k → k ≤ top) → dms_among least rs ≤ top
+dms_low_among least top [] le low = le
+dms_low_among least top (r ∷ rs) le low =
+    let own : r.last_dms ≤ top = low r.last_dms (Contains-append_left (numbers_by r) (flat_map numbers_by rs) r.last_dms (1, omega arith, refl)) in
+    let more = dms_low_among least top rs le (λ k has. low k (Contains-append_right (numbers_by r) (flat_map numbers_by rs) k has)) in
+    omega (arith, own, more)
+
+most_near : (bound mem rowset : ℕ) (m : Meta) → ((k : ℕ) → Contains (spelled m) k → k ≤ bound) → mem ≤ bound + 1 → rowset ≤ bound + 1 → AreNearMost bound (most_from m mem rowset)
+most_near bound mem rowset m low mem_low rowset_low =
+    let number : m.number ≤ bound = low m.number (has_first m.number (m.last_mem ∷ m.next_rowset ∷ m.next_file ∷ flat_map numbers_by m.rowsets)) in
+    let last : m.last_mem ≤ bound = low m.last_mem (1, omega arith, refl) in
+    record {
+      number = omega (arith, number);
+      last_mem = omega (arith, last, mem_low);
+      last_dms = dms_low_among (rowset + 2 ^ 44) (bound + 1 + 2 ^ 44) m.rowsets (omega (arith, rowset_low)) (λ k has. let le = low k (has_rows m k has) in omega (arith, le));
+    }
+
+first_low : (b : ℕ) (names : List Target) → All (IsUpTo b) names → first_number names ≤ b
+first_low b [] all = omega arith
+first_low b (Mem n ∷ names) all = All-head (IsUpTo b) (Mem n) names all
+first_low b (Delta r n ∷ names) all = omega arith
 
 -- ---- numbers that are near
 
@@ -400,8 +425,8 @@ frames_near columns logs stores logs' stores' keeps had bound three up image aft
       | inl named ↦
           let le : n ≤ bound = image_up_to logs bound (omega arith) each image.log was.0 was.1 was.3 (λ k told. each was.0 was.1 k (inl (subst (λ (records : List Entry). Contains (all_numbers records) k) same told))) n named in
           omega (arith, le)
-      | inr given ↦
-          let le : n ≤ bound = given_up columns store.0 image.store bound three store.2 (λ k slot. up (record { log = was.0; store = store.0 }) (was.1, store.1) k (inr slot)) n given in
+      | inr spelt ↦
+          let le : n ≤ bound = slots_up columns store.0 image.store bound three store.2 (λ k slot. up (record { log = was.0; store = store.0 }) (was.1, store.1) k (inr slot)) n spelt in
           omega (arith, le)
     ]
 
@@ -414,8 +439,7 @@ still_near tells now leaves tells' now' leaves' log logged store stored log_is s
     (subst (λ s. NumbersAreNear before (Both (CrashLeaves tells now leaves log) (CrashLeaves tells' now' leaves' s))) (sym store_is) itself)
   where
     itself : NumbersAreNear (Both (CrashLeaves tells now leaves log) (CrashLeaves tells' now' leaves' store)) (Both (CrashLeaves tells now leaves log) (CrashLeaves tells' now' leaves' store))
-    itself bound three up image is n (inl named) = let le = up image is n (inl named) in omega (arith, le)
-    itself bound three up image is n (inr given) = let le = up image is n (inr (given_slot image.store n given)) in omega (arith, le)
+    itself bound three up image is n numbered = let le = up image is n numbered in omega (arith, le)
 
 -- ---- the rowset number that is given first
 
@@ -444,6 +468,15 @@ next_low now leaves columns store c m b one of is up = elim of.super [
 
 -- Behind the records that were found in both devices as they were read a run's COMMITs name numbers that are near those that opening gave.
 module _ (logs stores logs' stores' : Files → Type 0) (columns : List Column) (names : List Target) (first next : ℕ) where
+  -- the stores that opening made have such names
+  names_up : (log store : Files) → logs log → stores store → (f : Found) → Answers columns log store (Ok f) → (records : List Entry) → log_of log ≡ Ok records → f.records ≡ records → names ≡ map (name_of f.super f.records) (places_under f.super)
+      → (bound : ℕ) → AreUpTo bound (Both logs stores) → All (IsUpTo (bound + 1)) names
+  names_up log store had stored f answer records reads records_are names_are bound up =
+      let low : (k : ℕ) → Contains (all_numbers records) k → k ≤ bound = λ k has. up (record { log = log; store = store }) (had, stored) k (inl (inl (subst (λ (rs : List Entry). Contains (all_numbers rs) k) (sym (ap found_in reads)) has))) in
+      let slots : (k : ℕ) → IsSlotNumber store k → k ≤ bound = λ k is. up (record { log = log; store = store }) (had, stored) k (inr is) in
+      subst (All (IsUpTo (bound + 1))) (sym names_are)
+      (names_low bound f.super f.records (found_low bound columns log store f slots answer) (subst (λ (rs : List Entry). (k : ℕ) → Contains (all_numbers rs) k → k ≤ bound) (sym records_are) low))
+
   -- of an image after, where both devices told what was found
   pub near_at : (log store : Files) → logs log → stores store → (f : Found) → Answers columns log store (Ok f) → (records : List Entry) → log_of log ≡ Ok records → f.records ≡ records → names ≡ map (name_of f.super f.records) (places_under f.super)
       → KeepsFiles logs logs' → (image : Image) → logs' image.log → ((b : ℕ) → 1 ≤ b → first ≤ b + 1 → All (IsUpTo (b + 1)) names → HoldsRecords records (IsBelow (b + 2 ^ 45)) image.log)
@@ -451,9 +484,7 @@ module _ (logs stores logs' stores' : Files → Type 0) (columns : List Column) 
   near_at log store had stored f answer records reads records_are names_are files image left run first_is bound three up next_is n named =
       let each : journal.AreUpTo bound logs = λ l left' k told. up (record { log = l; store = store }) (left', stored) k (inl told) in
       let low : (k : ℕ) → Contains (all_numbers records) k → k ≤ bound = λ k has. each log had k (inl (subst (λ (rs : List Entry). Contains (all_numbers rs) k) (sym (ap found_in reads)) has)) in
-      let slots : (k : ℕ) → IsSlotNumber store k → k ≤ bound = λ k is. up (record { log = log; store = store }) (had, stored) k (inr is) in
-      let given : All (IsUpTo (bound + 1)) names = subst (All (IsUpTo (bound + 1))) (sym names_are)
-      (names_low bound f.super f.records (found_low bound columns log store f slots answer) (subst (λ (rs : List Entry). (k : ℕ) → Contains (all_numbers rs) k → k ≤ bound) (sym records_are) low)) in
+      let given = names_up log store had stored f answer records reads records_are names_are bound up in
       let behind : behind_rowsets (named_by records) ≤ bound + 1 = behind_low bound (named_by records) (all_named_low bound records low) in
       let more = run bound (omega (arith, three)) (omega (arith, first_is, behind, next_is)) given in
       let own : (k : ℕ) → Contains (all_numbers more.run) k → k < bound + 2 ^ 45 = records_short (bound + 2 ^ 45) more.run more.names in
@@ -467,10 +498,14 @@ module _ (logs stores logs' stores' : Files → Type 0) (columns : List Column) 
       let le : n ≤ bound + 35184372088831 = image_up_to logs (bound + 35184372088831) (omega (arith, three)) wide image.log was.0 was.1 was.2 all n named in
       omega (arith, le)
 
-  -- and so are the numbers of rowsets and files in the store after, where that as opening left it had those of images before
-  pub store_at : (log store : Files) → logs log → stores store → (records : List Entry) → log_of log ≡ Ok records → (opened files : Files) (first_file : ℕ) → SpellNear first first_file opened files → first ≡ next_rowset next records
-      → (bound : ℕ) → AreUpTo bound (Both logs stores) → next ≤ bound → first_file ≤ bound → ((k : ℕ) → IsGivenNumber opened k → k ≤ bound) → (n : ℕ) → IsGivenNumber files n → n < bound + 2 ^ 45
-  store_at log store had stored records reads opened files first_file near first_is bound up next_is file_is opened_low n given =
+  -- and so are the numbers in the store after, where that as opening left it had those of images before
+  pub store_at : (log store : Files) → logs log → stores store → (f : Found) → Answers columns log store (Ok f) → (records : List Entry) → log_of log ≡ Ok records → f.records ≡ records → names ≡ map (name_of f.super f.records) (places_under f.super)
+      → (opened files : Files) (first_file : ℕ) (m : Meta) → super_of opened ≡ Ok (Some m) → (mem rowset : ℕ) → mem ≡ first_number names → rowset ≡ first → SpellNear first first_file (most_from m mem rowset) opened files → first ≡ next_rowset next records
+      → (bound : ℕ) → AreUpTo bound (Both logs stores) → next ≤ bound → first_file ≤ bound → ((k : ℕ) → IsSlotNumber opened k → k ≤ bound) → (n : ℕ) → IsSlotNumber files n → n < bound + 2 ^ 45
+  store_at log store had stored f answer records reads records_are names_are opened files first_file m super mem rowset mem_is rowset_is near first_is bound up next_is file_is opened_low n numbered =
       let low : (k : ℕ) → Contains (all_numbers records) k → k ≤ bound = λ k has. up (record { log = log; store = store }) (had, stored) k (inl (inl (subst (λ (rs : List Entry). Contains (all_numbers rs) k) (sym (ap found_in reads)) has))) in
       let behind : behind_rowsets (named_by records) ≤ bound + 1 = behind_low bound (named_by records) (all_named_low bound records low) in
-      given_near first first_file bound opened files near (omega (arith, first_is, behind, next_is)) file_is opened_low n given
+      let begins : first ≤ bound + 1 = omega (arith, first_is, behind, next_is) in
+      let mem_low : first_number names ≤ bound + 1 = first_low (bound + 1) names (names_up log store had stored f answer records reads records_are names_are bound up) in
+      let most = most_near bound mem rowset m (λ k has. opened_low k (spelled_there opened m k super has)) (omega (arith, mem_is, mem_low)) (omega (arith, rowset_is, begins)) in
+      slots_near first first_file bound (most_from m mem rowset) opened files near most begins file_is opened_low n numbered

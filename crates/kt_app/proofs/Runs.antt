@@ -436,14 +436,14 @@ module _ {L D C : Type 0} {tells : Bool} {seen : L → Files} {now : L → ℕ} 
   -- what a slot spells it spelled before, or the run has made it
   pub spells_more : (tells' : Bool) (seen' : D → Files) (now' : D → ℕ) (leaves' : D → ℕ → Files → Type 0) {faults' : D → ℕ} → IsStored tells seen tells' seen' faults' view
       → (IsTrue tells' → (disk : D) → view.store.home ≡ Some disk → (image : Files) → leaves' disk (now' disk) image → SpellMade seen' view.store image)
-      → (files : Files) → CrashLeaves tells' now' leaves' store files → SpellNear old.first_rowset old.first_file (seen' old.store.first) files
+      → (files : Files) → CrashLeaves tells' now' leaves' store files → SpellNear old.first_rowset old.first_file old.store.first.most (seen' old.store.first.device) files
   spells_more tells' seen' now' leaves' is made files left =
       let here = made left.0 store home.store_home files left.1 in
-      let own : SpellNear view.first_rowset view.first_file (seen' view.store.first) files = λ slot at m told. elim (here slot at m told) [
+      let own : SpellNear view.first_rowset view.first_file view.store.first.most (seen' view.store.first.device) files = λ slot at m told. elim (here slot at m told) [
         | inl was ↦ inl was
-        | inr new ↦ inr (record { rules = new.rules; rowsets = omega (arith, new.rowsets, is.near.rowsets); files = omega (arith, new.files, is.files_near) })
+        | inr new ↦ inr (record { rules = new.rules; within = new.within; rowsets = omega (arith, new.rowsets, is.near.rowsets); files = omega (arith, new.files, is.files_near) })
       ] in
-      subst (λ (r : Root L D C). SpellNear r.first_rowset r.first_file (seen' r.first_store) files) root own
+      subst (λ (r : Root L D C). SpellNear r.first_rowset r.first_file r.first_store.most (seen' r.first_store.device) files) root own
 
   pub no_fault_less : faults old.device ≤ faults log
   no_fault_less = subst (λ d. faults old.device ≤ faults d) (sym home.log_is) (subst (λ d. faults d ≤ faults home.journal.disk) device_is (at_home home.journal home.log_home).later)

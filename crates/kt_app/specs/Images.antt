@@ -11,6 +11,7 @@ use Rattle.kt_super.specs.Body.{IsMeta}
 use Rattle.kt_super.specs.Rowsets.{has, numbers_of}
 use Rattle.kt_super.specs.Slots.{super_of, slot_at, IsSlot}
 use Rattle.kt_files.specs.Named.{named_in}
+use Rattle.kt_storeside.specs.Sides.{Most, IsWithin}
 use Rattle.kt_reopen.specs.Holding.{AreAlikePairs}
 use Rattle.kt_reopen.specs.Opened.{first_meta}
 use Rattle.kt_engine.specs.Near.{most_rowsets, most_files}
@@ -82,34 +83,20 @@ IsNumberOf image n = journal.IsNumberOf image.log n ⊎ IsSlotNumber image.store
 abbrev pub AreUpTo : ℕ → (Image → Type 0) → Type 0
 AreUpTo bound images = (image : Image) → images image → (n : ℕ) → IsNumberOf image n → n ≤ bound
 
--- the numbers of rowsets and of files among them, with those that it gives next
-abbrev pub given_by : MetaRowset → List ℕ
-given_by r = r.rowset ∷ r.base.file ∷ (numbers_of r.undo ++ numbers_of r.redo)
-
-abbrev pub given_in : Meta → List ℕ
-given_in m = m.next_rowset ∷ m.next_file ∷ flat_map given_by m.rowsets
-
--- such a number that an open slot spells
-pub record IsGivenNumber (files : Files) (n : ℕ) : Type 0 where
-  pub slot : ℕ
-  pub is_slot : IsSlot slot
-  pub superblock : Meta
-  pub spells : slot_at slot (held files slot) ≡ Ok (Some superblock)
-  pub has : Contains (given_in superblock) n
-
--- Every number that a log after names, that of each file beside it, and each of a rowset or a file that an open slot of a store after spells, is less than 2^45
--- above the greater of 3 and the greatest number of the images before, those of the store among them.
+-- Every number that a log after names, that of each file beside it, and each that an open slot of a store after spells, is less than 2^45 above the greater
+-- of 3 and the greatest number of the images before.
 abbrev pub NumbersAreNear : (Image → Type 0) → (Image → Type 0) → Type 0
-NumbersAreNear before after = (bound : ℕ) → 3 ≤ bound → AreUpTo bound before → (image : Image) → after image → (n : ℕ) → journal.IsNumberOf image.log n ⊎ IsGivenNumber image.store n → n < bound + 2 ^ 45
+NumbersAreNear before after = (bound : ℕ) → 3 ≤ bound → AreUpTo bound before → (image : Image) → after image → (n : ℕ) → IsNumberOf image n → n < bound + 2 ^ 45
 
 -- ---- superblocks that a run makes
 
--- its numbers of rowsets and files are near those that the run gave first
-pub record IsMadeNear (first_rowset first_file : ℕ) (m : Meta) : Type 0 where
+-- its numbers of rowsets and files are near those that the run gave first, and the others lie within the bounds of the store
+pub record IsMadeNear (first_rowset first_file : ℕ) (most : Most) (m : Meta) : Type 0 where
   pub rules : IsMeta m
+  pub within : IsWithin most m
   pub rowsets : m.next_rowset ≤ first_rowset + most_rowsets
   pub files : m.next_file ≤ first_file + most_files
 
 -- each open slot of these files spells what it spells in the old ones, or such a superblock
-abbrev pub SpellNear : ℕ → ℕ → Files → Files → Type 0
-SpellNear first_rowset first_file old files = (slot : ℕ) → IsSlot slot → (m : Meta) → slot_at slot (held files slot) ≡ Ok (Some m) → (slot_at slot (held old slot) ≡ Ok (Some m)) ⊎ IsMadeNear first_rowset first_file m
+abbrev pub SpellNear : ℕ → ℕ → Most → Files → Files → Type 0
+SpellNear first_rowset first_file most old files = (slot : ℕ) → IsSlot slot → (m : Meta) → slot_at slot (held files slot) ≡ Ok (Some m) → (slot_at slot (held old slot) ≡ Ok (Some m)) ⊎ IsMadeNear first_rowset first_file most m

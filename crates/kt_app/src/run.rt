@@ -210,7 +210,7 @@ pub fn run_plan<
     ensures others { IsTrue L.tells → KeepsOthers L.now L.leaves engine.device result.1.log }
     ensures named { (files : Files) → CrashLeaves L.tells L.now L.leaves result.1.log files → (bound : ℕ) → 1 ≤ bound → engine.first_rowset ≤ bound + 1 → All (IsUpTo (bound + 1)) engine.found → HoldsRecords engine.records (IsBelow (bound + 2 ^ 45)) files }
     // No slot of the store spells a superblock that it did not spell as the run began, and whose numbers are far above those that opening gave.
-    ensures spelled { (files : Files) → CrashLeaves D.tells D.now D.leaves result.1.store files → SpellNear engine.first_rowset engine.first_file (D.seen engine.store.first) files }
+    ensures spelled { (files : Files) → CrashLeaves D.tells D.now D.leaves result.1.store files → SpellNear engine.first_rowset engine.first_file engine.store.first.most (D.seen engine.store.first.device) files }
 
     // The devices may be opened again.
     ensures openable { IsTrue L.tells → CanOpen L.now L.leaves result.1.log }

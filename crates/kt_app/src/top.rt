@@ -251,7 +251,7 @@ fn run_and_write<
     ensures kept { KeptOn (Grows (C.readings engine.tablet.clock) (C.readings result.1.clock)) engine schema.now plan.now (Both (CrashLeaves L.tells L.now L.leaves result.1.log) (CrashLeaves D.tells D.now D.leaves result.1.store)) result.1.trail }
     ensures others { IsTrue L.tells → KeepsOthers L.now L.leaves engine.device result.1.log }
     ensures named { (files : Files) → CrashLeaves L.tells L.now L.leaves result.1.log files → (bound : ℕ) → 1 ≤ bound → engine.first_rowset ≤ bound + 1 → All (IsUpTo (bound + 1)) engine.found → HoldsRecords engine.records (IsBelow (bound + 2 ^ 45)) files }
-    ensures spelled { (files : Files) → CrashLeaves D.tells D.now D.leaves result.1.store files → SpellNear engine.first_rowset engine.first_file (D.seen engine.store.first) files }
+    ensures spelled { (files : Files) → CrashLeaves D.tells D.now D.leaves result.1.store files → SpellNear engine.first_rowset engine.first_file engine.store.first.most (D.seen engine.store.first.device) files }
     ensures openable { IsTrue L.tells → CanOpen L.now L.leaves result.1.log }
     ensures stand { IsTrue D.tells → NamedStand D.seen D.now D.leaves result.1.store }
 {

@@ -3,10 +3,12 @@ use Rattle.std.specs.Prelude.{IsTrue, IfSome}
 use Rattle.kt_script.specs.Loads.{IsLoad}
 use Rattle.kt_disk.specs.Disk.{Files}
 use Rattle.kt_history.specs.Machine.{Workload}
+use Rattle.kt_storeside.specs.Sides.{Beginning}
 use Rattle.kt_engine.specs.Engines.{KeepsOthers}
-use Rattle.kt_app.specs.Images.{CrashLeaves, Both, KeepsFiles, IsSlotNumber, IsGivenNumber, NumbersAreNear, SpellNear}
+use Rattle.kt_engine.specs.Near.{first_number}
+use Rattle.kt_app.specs.Images.{CrashLeaves, Both, KeepsFiles, IsSlotNumber, NumbersAreNear, SpellNear}
 use Rattle.kt_app.specs.Refusals.{refusal_text}
-use Rattle.kt_app.proofs.Numbers.{keeps_files, frames_files, frames_near, still_near, next_low, given_up, next_given, near_at, store_at}
+use Rattle.kt_app.proofs.Numbers.{keeps_files, frames_files, frames_near, still_near, next_low, slots_up, next_spelled, near_at, store_at}
 use Rattle.kt_app.proofs.SourceLaws.{either}
 use Rattle.kt_app.proofs.RunLaws.{is_on, was_refused, as_before, let_be, runs_over, kept_over, rose_as, neither_rose}
 use Rattle.kt_app.proofs.top.open_and_run.Goals as goal
@@ -134,8 +136,8 @@ returns-in-Ok-open_tablet-clause-near g c =
     let slots = λ (files : Files) (was : g.D.Disk.leaves c.args.store (g.D.Disk.now c.args.store) files) (k : ℕ) (is : IsSlotNumber files k). up (record { log = g.L.Disk.seen c.args.log; store = files }) ((after.0.0, (g.met.L.Disk g.world.𝓛 g.world.𝓜 g.world.𝓡 ((λ s x. x), (λ x. x), (λ x. x), λ x. x)).reads_as_image c.args.log after.0.0), (after.1.0, was)) k (inr is) in
     let from = (let moment = opened.store_moment after.1.0 in moment.each (g.D.Disk.now engine.store.known) known moment.later (omega arith) ((g.met.D.Disk g.world.𝓛 g.world.𝓜 g.world.𝓡 ((λ s x. x), (λ x. x), (λ x. x), λ x. x)).reads_as_image engine.store.known after.1.0)) in
     let low : engine.store.meta.next_rowset ≤ bound = next_low g.D.Disk.now g.D.Disk.leaves c.args.schema.now c.args.store known engine.store.meta bound (omega (arith, three)) from (opened.meta after.1.0) slots in
-    let given : (k : ℕ) → IsGivenNumber known k → k ≤ bound = given_up c.args.schema.now from.image known bound three from.slots (slots from.image from.was_left) in
-    let file : engine.first_file ≤ bound = (let le = given engine.store.meta.next_file (next_given known engine.store.meta (opened.meta after.1.0)) in let e = opened.first_file ∙ opened.next.1 in omega (arith, le, e)) in
+    let given : (k : ℕ) → IsSlotNumber known k → k ≤ bound = slots_up c.args.schema.now from.image known bound three from.slots (slots from.image from.was_left) in
+    let file : engine.first_file ≤ bound = (let le = given engine.store.meta.next_file (next_spelled known engine.store.meta (opened.meta after.1.0)) in let e = opened.first_file ∙ opened.next.1 in omega (arith, le, e)) in
     elim numbered [
       | inl named ↦
           near_at logs stores (CrashLeaves g.L.Disk.tells g.L.Disk.now g.L.Disk.leaves parts.log) (CrashLeaves g.D.Disk.tells g.D.Disk.now g.D.Disk.leaves parts.store) c.args.schema.now engine.found engine.first_rowset engine.store.meta.next_rowset (g.L.Disk.seen c.args.log) (g.D.Disk.seen c.args.store)
@@ -144,8 +146,8 @@ returns-in-Ok-open_tablet-clause-near g c =
       | inr numbers ↦
           store_at logs stores (CrashLeaves g.L.Disk.tells g.L.Disk.now g.L.Disk.leaves parts.log) (CrashLeaves g.D.Disk.tells g.D.Disk.now g.D.Disk.leaves parts.store) c.args.schema.now engine.found engine.first_rowset engine.store.meta.next_rowset (g.L.Disk.seen c.args.log) (g.D.Disk.seen c.args.store)
           (after.0.0, (g.met.L.Disk g.world.𝓛 g.world.𝓜 g.world.𝓡 ((λ s x. x), (λ x. x), (λ x. x), λ x. x)).reads_as_image c.args.log after.0.0) (after.1.0, (g.met.D.Disk g.world.𝓛 g.world.𝓜 g.world.𝓡 ((λ s x. x), (λ x. x), (λ x. x), λ x. x)).reads_as_image c.args.store after.1.0)
-          engine.records (opened.records after.0.0) known image.store engine.first_file
-          (subst (λ d. SpellNear engine.first_rowset engine.first_file (g.D.Disk.seen d) image.store) opened.first_store (run.spelled image.store after.1)) (opened.first_rowset ∙ opened.next.0) bound up low file given n numbers
+          opened.found.0 (opened.found.2 after.0.0 after.1.0) engine.records (opened.records after.0.0) (sym opened.found.1.records) (opened.names ∙ opened.found.1.names) known image.store engine.first_file engine.store.meta (opened.meta after.1.0) (first_number engine.tablet.names) engine.store.next_rowset
+          (sym (ap first_number opened.names)) (sym opened.first_rowset) (subst (λ (b : Beginning _). SpellNear engine.first_rowset engine.first_file b.most (g.D.Disk.seen b.device) image.store) opened.first_store (run.spelled image.store after.1)) (opened.first_rowset ∙ opened.next.0) bound up low file given n numbers
     ] in
     subst (λ l. NumbersAreNear (Both logs stores) (Both (CrashLeaves g.L.Disk.tells g.L.Disk.now g.L.Disk.leaves l) (CrashLeaves g.D.Disk.tells g.D.Disk.now g.D.Disk.leaves c.end_with-in-Ok-open_tablet.result.store))) (sym is.1)
     (subst (λ s. NumbersAreNear (Both logs stores) (Both (CrashLeaves g.L.Disk.tells g.L.Disk.now g.L.Disk.leaves parts.log) (CrashLeaves g.D.Disk.tells g.D.Disk.now g.D.Disk.leaves s))) (sym is.2) near)
