@@ -99,8 +99,7 @@ impl Sessions {
         let Some(last) = &mut self.last else {
             return Ok(());
         };
-        last.push(command, spare)?;
-        Ok(())
+        last.push(command, spare)
     }
 
     /// A write of one operation more in the last session.
@@ -112,8 +111,7 @@ impl Sessions {
         let Some(last) = &mut self.last else {
             return Ok(());
         };
-        last.push_lone(op)?;
-        Ok(())
+        last.push_lone(op)
     }
 
     pub fn into_plan(self) -> Result<Plan, NoMemory>
