@@ -1,6 +1,6 @@
 -- The visit that ends a write.
-use Rattle.std.proofs.Common.{◌≡◌, ◌<◌, ◌^◌, ℕ, ◌+◌, ◌-◌, List, [], Option, Some, None, true, false, Bool, refl, sym, ap, ◌∙◌, subst, length, Result, Ok, Err}
-use Rattle.std.specs.Prelude.{◌==◌, not, IsOk}
+use Rattle.std.proofs.Common.{◌≡◌, ℕ, ◌+◌, ◌-◌, List, [], Option, Some, None, true, sym, ap, ◌∙◌, subst, length}
+use Rattle.std.specs.Prelude.{◌==◌, not}
 use Rattle.std.specs.List.{filter}
 use Rattle.std.proofs.Math.Seq.{drop-length}
 use Rattle.kt_history.specs.declared.command.Command.TheVariants as command
@@ -23,7 +23,7 @@ use Rattle.kt_engine.specs.Engines.{EngineView, IsFound, TellsStop, core_from}
 use Rattle.kt_engine.specs.Sessions.{runs}
 use Rattle.kt_engine.proofs.Sessions.{runs_none}
 use Rattle.kt_engine.specs.Visits.{PartView, part_in, session_of, out_of, root_of, IsVisit}
-use Rattle.kt_serve.specs.Sessions.{IsAloft, HasNoLog, HasLeft, IsCommand, IsFree, OnRoot, AnswersOne, IsQuiet, has_stop}
+use Rattle.kt_serve.specs.Sessions.{OwnFlight, IsNext, IsAloft, HasNoLog, HasLeft, IsCommand, IsFree, OnRoot, AnswersOne, IsQuiet, has_stop}
 use Rattle.kt_serve.proofs.Lines.{is_mine}
 use Rattle.kt_serve.proofs.Flights.{found_flight, none_left, is_over}
 use Rattle.kt_serve.proofs.Begins.{has_root, line_answers, some_is}
@@ -34,20 +34,14 @@ use Rattle.kt_serve.proofs.Applies.{own_flight, own_turn, own_home}
 abbrev pub flown : ℕ → ℕ → ℕ → List RowOp → ℕ → Aloft
 flown s i ts ops n = record { s = s; i = i; ts = ts; ops = ops; applied = n }
 
--- where an end is refused a `stop` line stands
-pub stopped_by : {A E : Type 0} (b : Bool) (r : Result A E) (e : E) → (b ≡ false → IsOk r) → r ≡ Err e → b ≡ true
-stopped_by true r e goes is = refl
-stopped_by false (Ok x) e goes is = absurd (cc)
-stopped_by false (Err x) e goes is = absurd (let h = goes refl in cc)
-
 module _ {L D C : Type 0} where
-  pub may_end : (told : Option (PartView L D C)) (x : EngineView L D C) (n by i ts : ℕ) (ops : List RowOp) → told ≡ Some (part_in x n) → by ≡ n → IsAloft told n i ts ops (length ops) → i + 1 < 2 ^ 32 → MayEnd x.tablet.core by
-  may_end told x n by i ts ops is me a few = subst (MayEnd x.tablet.core) (sym me) (record {
-    flight = flown n i ts ops (length ops);
-    flies = found_flight n x.tablet.core.aloft _ [] (own_flight told x n i ts (length ops) ops is a);
-    turn = own_turn told x n i ts (length ops) ops is a;
-    over = is_over n x.tablet.core.aloft (flown n i ts ops (length ops)) (own_flight told x n i ts (length ops) ops is a) (drop-length ops);
-  })
+  pub may_end : (x : EngineView L D C) (s i ts : ℕ) (ops : List RowOp) → OwnFlight x s i ts ops (length ops) → IsNext x s i → MayEnd x.tablet.core s
+  may_end x s i ts ops own next = record {
+    flight = flown s i ts ops (length ops);
+    flies = found_flight s x.tablet.core.aloft _ [] own;
+    turn = next;
+    over = is_over s x.tablet.core.aloft (flown s i ts ops (length ops)) own (drop-length ops);
+  }
 
   -- the flight that is found is the session's
   flight_is : (told : Option (PartView L D C)) (x : EngineView L D C) (n i ts : ℕ) (ops : List RowOp) (flight : Aloft) → told ≡ Some (part_in x n) → IsAloft told n i ts ops (length ops) → flight_of n x.tablet.core.aloft ≡ Some flight → flight ≡ flown n i ts ops (length ops)

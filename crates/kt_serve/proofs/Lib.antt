@@ -6,6 +6,7 @@ pub mod Stills
 pub mod Homes
 pub mod Applies
 pub mod Ends
+pub mod Turns
 pub mod Commands
 pub mod Failed
 pub mod Marks

@@ -17,16 +17,18 @@ use Rattle.kt_history.specs.Replies.{told}
 use Rattle.std.specs.List.{filter}
 use Rattle.kt_histlaws.specs.Histories.{or_else}
 use Rattle.kt_histlaws.specs.Pending.{Aloft}
-use Rattle.kt_histlaws.specs.Events.{advance}
 use Rattle.kt_serve.specs.declared.rows.RowTurn.{RowTurn}
 use Rattle.kt_serve.specs.declared.rows.RowTurn.TheVariants as row
 use Rattle.kt_bytes.specs.declared.memory.NoMemory.{NoMemory}
-use Rattle.kt_engine.specs.Engines.{EngineView}
+use Rattle.kt_engine.specs.Engines.{EngineView, IsFound, core_from}
 use Rattle.kt_tablet.specs.Views.{Opens}
 use Rattle.kt_tablet.specs.declared.tablet.write.BeginNo.{BeginNo}
 use Rattle.kt_tablet.specs.declared.tablet.write.BeginNo.TheVariants as no
 use Rattle.kt_tablet.specs.Plans.{IsShort}
-use Rattle.kt_engine.specs.Visits.{Root, PartView}
+use Rattle.kt_engine.specs.Visits.{Root, PartView, IsVisit}
+use Rattle.kt_engine.specs.declared.write.WriteDone.{WriteDone}
+use Rattle.kt_tablet.specs.Visits.{HasEnded, IsDone}
+use Rattle.kt_records.specs.declared.entry.CommitRow.{CommitRow}
 use Rattle.kt_serve.specs.declared.log.LogTurn.{LogTurn}
 use Rattle.kt_serve.specs.declared.log.LogTurn.TheVariants as turn
 
@@ -77,11 +79,10 @@ pub record IsAloft {L D C : Type 0} (told : Option (PartView L D C)) (s i ts : �
   pub flight : part.pass.session.flight ≡ record { s = s; i = i; ts = ts; ops = ops; applied = applied } ∷ []
   pub turn : part.pass.session.turn ≡ Some (record { next = i; look = None })
 
--- Command i, a write, flies, and all its rows are applied.
-pub record IsWritten {L D C : Type 0} (told : Option (PartView L D C)) (s i : ℕ) : Type 0 where
-  pub write : Write
+-- Command i, this write, flies, and so many rows of it are applied.
+pub record IsFlying {L D C : Type 0} (told : Option (PartView L D C)) (s i : ℕ) (write : Write) (applied : ℕ) : Type 0 where
   pub ts : ℕ
-  pub aloft : IsAloft told s i ts write.ops (length write.ops)
+  pub aloft : IsAloft told s i ts write.ops applied
   pub command_is : IsCommand told s i (command.Write write)
   pub few : i + 1 < 2 ^ 32
 
@@ -191,24 +192,39 @@ AfterBeginning old new before after s i ops (Err no_memory) = IsGoing s old new 
 abbrev pub OwnFlight : {L D C : Type 0} → EngineView L D C → ℕ → ℕ → ℕ → List RowOp → ℕ → Type 0
 OwnFlight view s i ts ops n = filter (λ w. w.s == s) view.tablet.core.aloft ≡ record { s = s; i = i; ts = ts; ops = ops; applied = n } ∷ []
 
--- one row more is applied, and nothing else has changed that the session sees
-pub record Advances {L D C : Type 0} (old new : EngineView L D C) (s : ℕ) : Type 0 where
-  pub flight : (w : Aloft) → filter (λ v. v.s == s) old.tablet.core.aloft ≡ w ∷ [] → filter (λ v. v.s == s) new.tablet.core.aloft ≡ advance w ∷ []
+-- command i is the next of the session
+abbrev pub IsNext : {L D C : Type 0} → EngineView L D C → ℕ → ℕ → Type 0
+IsNext view s i = nth view.tablet.core.turns s ≡ Some (record { next = i; look = None })
+
+-- of its write the rows from `at` up to `to` are applied, and nothing else has changed that the session sees
+pub record Applies {L D C : Type 0} (old new : EngineView L D C) (s at to : ℕ) : Type 0 where
+  pub visit : IsVisit s old new
+  pub flight : (i ts : ℕ) (ops : List RowOp) → OwnFlight old s i ts ops at → OwnFlight new s i ts ops to
   pub turns : new.tablet.core.turns ≡ old.tablet.core.turns
   pub trail : new.tablet.core.trail ≡ old.tablet.core.trail
   pub log : new.log ≡ old.log
 
--- what a visit leaves that may apply a row, in the engine
-abbrev pub AppliedBy : {L D C : Type 0} → EngineView L D C → EngineView L D C → ℕ → RowTurn → Type 0
-AppliedBy old new s row.Applied = Advances old new s
-AppliedBy old new s row.Early = new ≡ old
-AppliedBy old new s row.Stopped = (new ≡ old) × (old.tablet.core.stopped ≡ true)
+-- its write has ended: what comes out of it is what the run says
+pub record EndsWith {L D C : Type 0} (old new : EngineView L D C) (s : ℕ) (done : WriteDone) : Type 0 where
+  pub visit : IsVisit s old new
+  pub ended : (i : ℕ) × HasEnded old.tablet.core new.tablet.core s i done.ts
+  pub told : (first : Past) → IsFound old first → (rows : List CommitRow) × IsDone (core_from old first) old.tablet.names s done.outcomes rows
+  pub holder : new.log.holder ≡ old.log.holder
+  pub out : new.log.out ≡ old.log.out
+
+-- what a visit leaves that may apply rows of a write of so many and end it, in the engine
+abbrev pub AppliedBy : {L D C : Type 0} → EngineView L D C → EngineView L D C → ℕ → ℕ → ℕ → RowTurn → Type 0
+AppliedBy old new s at count (row.Applied to) = Applies old new s at to × (at < to) × (to < count)
+AppliedBy {L} {D} {C} old new s at count (row.Ended done) = (mid : EngineView L D C) × Applies old mid s at count × EndsWith mid new s done
+AppliedBy old new s at count row.Early = new ≡ old
+AppliedBy old new s at count row.Stopped = (new ≡ old) × (old.tablet.core.stopped ≡ true)
 
 -- and for the session
-abbrev pub AfterApply : {L D C : Type 0} → Option (PartView L D C) → Option (PartView L D C) → List Event → List Event → ℕ → ℕ → RowTurn → Type 0
-AfterApply old new before after s at row.Applied = IsGoing s old new before after × ((i ts : ℕ) (ops : List RowOp) → IsAloft old s i ts ops at → IsAloft new s i ts ops (at + 1))
-AfterApply old new before after s at row.Early = IsStill s old new before after
-AfterApply old new before after s at row.Stopped = IsStill s old new before after × (has_stop after ≡ true)
+abbrev pub AfterApply : {L D C : Type 0} → Option (PartView L D C) → Option (PartView L D C) → List Event → List Event → ℕ → Write → ℕ → RowTurn → Type 0
+AfterApply old new before after s write at (row.Applied to) = IsGoing s old new before after × ((i : ℕ) → IsFlying old s i write at → IsFlying new s i write to) × (at < to) × (to < length write.ops)
+AfterApply old new before after s write at (row.Ended done) = SameRoot old new × ((i : ℕ) → IsFlying old s i write at → AfterCommand old new before after s i (reply.At done.ts done.outcomes))
+AfterApply old new before after s write at row.Early = IsStill s old new before after
+AfterApply old new before after s write at row.Stopped = IsStill s old new before after × (has_stop after ≡ true)
 
 -- a command that a session can run: a write that the formats allow, a scan, a mark, or maintenance
 abbrev pub CanRun : ℕ → Command → Type 0

@@ -1,39 +1,73 @@
-//! The rows of a write that flies, each applied by a visit, and its end.
-ghost use Rattle.std.specs.Prelude.{◌≡◌, ◌≢◌, ◌<◌, ◌+◌, ◌^◌, ℕ, Err, List, true, OnOk, length};
+//! The rows of a write that flies, and its end, by as few visits as the others may wait for.
+ghost use Rattle.std.specs.Prelude.{◌≡◌, ◌≤◌, ℕ, Err, IfOk, List, OnErr, Some, false, length, true};
 ghost use Rattle.kt_history.specs.declared.operation.RowOp.{RowOp};
 ghost use Rattle.kt_seatlock.specs.Passes.{number, seen, part, MayEnter, IsBack};
+ghost use Rattle.kt_tablet.specs.Views.{place_at};
 ghost use Rattle.kt_engine.specs.Visits.{IsVisit};
 ghost use Rattle.kt_serve.specs.Maintained.{StoreRests};
-ghost use Rattle.kt_serve.specs.Sessions.{IsAloft, HasNoLog, IsWritten, IsGoing, SameRoot, OwnFlight, AppliedBy, AfterApply, AfterCommand, has_stop};
+ghost use Rattle.kt_serve.specs.Sessions.{HasNoLog, IsFlying, IsGoing, IsNext, SameRoot, OwnFlight, Applies, AppliedBy, AfterApply, AfterCommand, has_stop};
 
 use crate::log::{Halt, make_durable};
 use kt_base::Clock;
 use kt_disk::Disk;
+use kt_engine::laws::visit_law;
 use kt_engine::{Engine, Stopped, WriteDone};
-use kt_history::{OpList, Reply};
+use kt_history::{Reply, Write};
 use kt_seatlock::{Pass, SeatLock};
 use std::alloc::Global;
 use std::sync::Wait;
 
-/// What became of the next row of a write.
-#[derive(Clone, Copy, PartialEq, Eq)]
+// How many rows a visit applies at most: others wait for the lock no longer than these take.
+const ROWS_A_VISIT: usize = 16;
+
+/// How far a visit brought a write.
+#[derive(Drop)]
 pub enum RowTurn {
-    Applied,
+    /// Its rows up to this one are applied.
+    Applied(usize),
+    /// All are, and it has ended.
+    Ended(WriteDone),
     /// The REPLICATE is not durable yet.
     Early,
     Stopped,
 }
 
-// Applies the next row, if the REPLICATE is durable.
-fn apply_next<L: Disk, D: Disk + Drop, C: Clock>(
+// Applies the rows from `at` up to `to`, of a write whose REPLICATE is durable.
+fn apply_part<L: Disk, D: Disk + Drop, C: Clock>(
     engine: &mut Engine<L, D, C>,
     by: u32,
     at: usize,
+    to: usize,
+)
+    requires flies { (i ts : ℕ) × (ops : List RowOp) × OwnFlight engine.old by i ts ops at × (to ≤ length ops) }
+    requires within { at ≤ to }
+    requires goes { engine.old.tablet.core.stopped ≡ false }
+    requires durable { (place : ℕ) × (place_at by engine.old.tablet.places ≡ Some place) × (place ≤ engine.old.log.known.count) }
+    ensures applied { Applies engine.old engine.new by at to }
+    ensures goes { engine.new.tablet.core.stopped ≡ false }
+    ensures store { engine.new.store ≡ engine.old.store }
+{
+    visit_law::<L, D, C>();
+    for row in at..to {
+        match engine.apply_row(by, row) {
+            Ok(_) => {}
+            Err(Stopped) => unreachable!(),
+        }
+    }
+}
+
+// Applies the next rows of a write of so many, if its REPLICATE is durable, and ends it once none is left.
+fn go_on<L: Disk, D: Disk + Drop, C: Clock>(
+    engine: &mut Engine<L, D, C>,
+    by: u32,
+    at: usize,
+    count: usize,
 ) -> RowTurn
-    requires { (i ts : ℕ) × (ops : List RowOp) × OwnFlight engine.old by i ts ops at × (at < length ops) }
+    requires flies { (i ts : ℕ) × (ops : List RowOp) × OwnFlight engine.old by i ts ops at × IsNext engine.old by i × (count ≡ length ops) }
+    requires within { at ≤ count }
     ensures visit { IsVisit by engine.old engine.new }
     ensures store { engine.new.store ≡ engine.old.store }
-    ensures applied { AppliedBy engine.old engine.new by result }
+    ensures applied { AppliedBy engine.old engine.new by at count result }
 {
     engine.standing();
     if engine.is_stopped() {
@@ -42,110 +76,75 @@ fn apply_next<L: Disk, D: Disk + Drop, C: Clock>(
     if engine.durable() < engine.place(by) {
         return RowTurn::Early;
     }
-    match engine.apply_row(by, at) {
-        Ok(_) => RowTurn::Applied,
-        Err(Stopped) => RowTurn::Stopped,
+    let to = at + ROWS_A_VISIT.min(count - at);
+    apply_part(engine, by, at, to);
+    if to < count {
+        return RowTurn::Applied(to);
+    }
+    visit_law::<L, D, C>();
+    match engine.end(by) {
+        Ok(done) => RowTurn::Ended(done),
+        Err(Stopped) => unreachable!(),
     }
 }
 
-// One visit that applies the next row, if the REPLICATE is durable.
-fn apply_row<L: Disk, D: Disk + Drop, C: Clock, R: Wait>(
+// One visit that brings the session's write on.
+fn bring_on<L: Disk, D: Disk + Drop, C: Clock, R: Wait>(
     rt: &R,
     lock: &SeatLock<Engine<L, D, C>>,
     pass: &mut Pass<Engine<L, D, C>>,
     at: usize,
+    write: &Write,
 ) -> RowTurn
     requires enters { MayEnter lock.now pass.old }
-    requires aloft { (i ts : ℕ) × (ops : List RowOp) × IsAloft (part pass.old) (number pass.old) i ts ops at × (at < length ops) }
+    requires flying { (i : ℕ) × IsFlying (part pass.old) (number pass.old) i write.now at }
+    requires within { at ≤ length write.now.ops }
     requires home { HasNoLog (part pass.old) }
     ensures pass { IsBack pass.old pass.new }
     ensures rests { StoreRests (part pass.old) → StoreRests (part pass.new) }
     ensures home { HasNoLog (part pass.new) }
-    ensures applied { AfterApply (part pass.old) (part pass.new) (seen pass.old) (seen pass.new) (number pass.old) at result }
+    ensures applied { AfterApply (part pass.old) (part pass.new) (seen pass.old) (seen pass.new) (number pass.old) write.now at result }
 {
     let by = pass.number();
+    let count = write.ops.len();
     let mut engine = lock.enter(rt, pass);
     engine.standing();
-    let applied = apply_next(&mut engine, by, at);
+    let turn = go_on(&mut engine, by, at, count);
     lock.leave(pass, engine);
-    applied
+    turn
 }
 
-// Applies the next row, as soon as the REPLICATE is durable.
-fn apply_durably<L: Disk, D: Disk + Drop, C: Clock, R: Wait>(
+/// Makes the REPLICATE of the session's write durable, applies its rows, ends it and answers it. Each visit brings it on, or finds that it has to wait for
+/// the log. What the write held is freed once the engine is back.
+pub fn finish_write<L: Disk, D: Disk + Drop, C: Clock, R: Wait>(
     rt: &R,
     alloc: Global,
     lock: &SeatLock<Engine<L, D, C>>,
     pass: &mut Pass<Engine<L, D, C>>,
-    at: usize,
-) -> Result<(), Halt>
+    write: &Write,
+) -> Result<Reply, Halt>
     requires enters { MayEnter lock.now pass.old }
-    requires aloft { (i ts : ℕ) × (ops : List RowOp) × IsAloft (part pass.old) (number pass.old) i ts ops at × (at < length ops) }
+    requires flying { (i : ℕ) × IsFlying (part pass.old) (number pass.old) i write.now 0 }
     requires home { HasNoLog (part pass.old) }
     ensures pass { IsBack pass.old pass.new }
     ensures rests { StoreRests (part pass.old) → StoreRests (part pass.new) }
     ensures home { HasNoLog (part pass.new) }
-    ensures going { IsGoing (number pass.old) (part pass.old) (part pass.new) (seen pass.old) (seen pass.new) }
-    ensures aloft { OnOk result ((i ts : ℕ) (ops : List RowOp) → IsAloft (part pass.old) (number pass.old) i ts ops at → IsAloft (part pass.new) (number pass.old) i ts ops (at + 1)) }
+    ensures root { SameRoot (part pass.old) (part pass.new) }
+    ensures reply { IfOk result (λ reply. (i : ℕ) → IsFlying (part pass.old) (number pass.old) i write.now 0 → AfterCommand (part pass.old) (part pass.new) (seen pass.old) (seen pass.new) (number pass.old) i reply) }
+    ensures going { OnErr result (IsGoing (number pass.old) (part pass.old) (part pass.new) (seen pass.old) (seen pass.new)) }
     ensures stopped { result ≡ Err Halt.Stopped → has_stop (seen pass.new) ≡ true }
 {
+    make_durable(rt, alloc, lock, pass)?;
+    let mut at = 0;
     for _ in rt.forever() {
-        match apply_row(rt, lock, pass, at) {
-            RowTurn::Applied => return Ok(()),
+        match bring_on(rt, lock, pass, at, write) {
+            RowTurn::Applied(to) => at = to,
+            RowTurn::Ended(WriteDone { ts, outcomes, .. }) => {
+                return Ok(Reply::At { ts, outcomes });
+            }
             RowTurn::Early => make_durable(rt, alloc, lock, pass)?,
             RowTurn::Stopped => return Err(Halt::Stopped),
         }
     }
     unreachable!()
-}
-
-/// Applies all rows of the session's write.
-pub fn apply_rows<L: Disk, D: Disk + Drop, C: Clock, R: Wait>(
-    rt: &R,
-    alloc: Global,
-    lock: &SeatLock<Engine<L, D, C>>,
-    pass: &mut Pass<Engine<L, D, C>>,
-    ops: &OpList,
-) -> Result<(), Halt>
-    requires enters { MayEnter lock.now pass.old }
-    requires aloft { (i ts : ℕ) × IsAloft (part pass.old) (number pass.old) i ts ops.now 0 }
-    requires home { HasNoLog (part pass.old) }
-    ensures pass { IsBack pass.old pass.new }
-    ensures rests { StoreRests (part pass.old) → StoreRests (part pass.new) }
-    ensures home { HasNoLog (part pass.new) }
-    ensures going { IsGoing (number pass.old) (part pass.old) (part pass.new) (seen pass.old) (seen pass.new) }
-    ensures aloft { OnOk result ((i ts : ℕ) → IsAloft (part pass.old) (number pass.old) i ts ops.now 0 → IsAloft (part pass.new) (number pass.old) i ts ops.now (length ops.now)) }
-    ensures stopped { result ≡ Err Halt.Stopped → has_stop (seen pass.new) ≡ true }
-{
-    make_durable(rt, alloc, lock, pass)?;
-    for at in 0..ops.len() {
-        apply_durably(rt, alloc, lock, pass, at)?;
-    }
-    Ok(())
-}
-
-/// Ends the session's write, whose rows are all applied, and answers it.
-pub fn end_write<L: Disk, D: Disk + Drop, C: Clock, R: Wait>(
-    rt: &R,
-    lock: &SeatLock<Engine<L, D, C>>,
-    pass: &mut Pass<Engine<L, D, C>>,
-) -> Reply
-    requires enters { MayEnter lock.now pass.old }
-    requires home { HasNoLog (part pass.old) }
-    requires written { (i : ℕ) × IsWritten (part pass.old) (number pass.old) i }
-    ensures pass { IsBack pass.old pass.new }
-    ensures rests { StoreRests (part pass.old) → StoreRests (part pass.new) }
-    ensures home { HasNoLog (part pass.new) }
-    ensures root { SameRoot (part pass.old) (part pass.new) }
-    ensures reply { (i : ℕ) → IsWritten (part pass.old) (number pass.old) i → AfterCommand (part pass.old) (part pass.new) (seen pass.old) (seen pass.new) (number pass.old) i result }
-{
-    let by = pass.number();
-    let mut engine = lock.enter(rt, pass);
-    engine.standing();
-    let ended = engine.end(by);
-    lock.leave(pass, engine);
-    match ended {
-        Ok(WriteDone { ts, outcomes, .. }) => Reply::At { ts, outcomes },
-        Err(Stopped) => Reply::Stopped,
-    }
 }

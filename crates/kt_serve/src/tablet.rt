@@ -17,7 +17,7 @@ ghost use Rattle.kt_serve.specs.Sessions.{IsFree, IsCommand, IsWrite, IsStill, I
 use crate::chores::{Chores, run_chore};
 use crate::close::{Closing, finish};
 use crate::log::Halt;
-use crate::rows::{apply_rows, end_write};
+use crate::rows::finish_write;
 use crate::visits::{begin_write, mark_once};
 use kt_base::{Chore, Clock, NoMemory};
 use kt_disk::{Disk, Gate, Point};
@@ -81,8 +81,8 @@ impl<L: Disk, D: Disk + Drop, C: Clock> SharedTablet<L, D, C> {
             None => {}
         }
         gate.at(Point::Begun { session, index });
-        match apply_rows(rt, alloc, &self.lock, pass, &write.ops) {
-            Ok(()) => Ok(end_write(rt, &self.lock, pass)),
+        match finish_write(rt, alloc, &self.lock, pass, write) {
+            Ok(reply) => Ok(reply),
             Err(Halt::Stopped) => Ok(Reply::Stopped),
             Err(Halt::Memory) => Err(NoMemory),
         }

@@ -1,57 +1,40 @@
 use Rattle.std.proofs.Common.{◌≡◌, ◌∙◌, refl, ap, subst, Ok, Some}
 use Rattle.kt_disk.specs.declared.gate.Point.TheVariants as point
 use Rattle.kt_history.specs.declared.reply.Reply.TheVariants as reply
-use Rattle.kt_history.specs.declared.command.Command.TheVariants as command
 use Rattle.kt_seatlock.specs.Passes.{number, part, seen}
 use Rattle.kt_serve.proofs.Stills.{going_after}
-use Rattle.kt_serve.proofs.Commands.{command_after, after_going}
-use Rattle.kt_serve.proofs.Applies.{flies_for, written}
+use Rattle.kt_serve.proofs.Commands.{after_going}
+use Rattle.kt_serve.proofs.Applies.{flies_first}
 use Rattle.kt_serve.proofs.Open.{is_answered}
 use Rattle.kt_serve.proofs.tablet.SharedTablet.write.Goals as goal
 
-pub apply_rows-requires-clause-aloft : goal.apply_rows-requires-clause-aloft
-apply_rows-requires-clause-aloft g c =
+pub finish_write-requires-clause-flying : goal.finish_write-requires-clause-flying
+finish_write-requires-clause-flying g c =
     let began = rw c.in-None.is at c.in_ok-reply.ensures.begun in
-    (c.args.index, began.0.0, flies_for (number c.args.pass.now) (number c.begin_write.new.pass) c.args.index began.0.0 c.args.write.now.ops c.args.write.now.ops (part c.begin_write.new.pass) refl c.begin_write.ensures.pass.0.1 began.0.1)
-
-pub end_write-requires-clause-written : goal.end_write-requires-clause-written
-end_write-requires-clause-written g c =
-    let began = rw c.in-None.is at c.in_ok-reply.ensures.begun in
-    let going = going_after (number c.args.pass.now) (number c.begin_write.new.pass) (part c.args.pass.now) (part c.begin_write.new.pass) (part c.apply_rows.new.pass) (seen c.args.pass.now) (seen c.begin_write.new.pass) (seen c.apply_rows.new.pass) c.begin_write.ensures.pass.0.1 began.1 c.apply_rows.ensures.going in
-    let its = command_after (number c.args.pass.now) (number c.apply_rows.new.pass) c.args.index (command.Write c.args.write.now) c.requires.next.part _ _ c.requires.next.is (c.apply_rows.ensures.pass.0.1 ∙ c.begin_write.ensures.pass.0.1) going.root c.requires.command in
-    let done = written (number c.args.pass.now) (number c.begin_write.new.pass) (number c.apply_rows.new.pass) c.args.index began.0.0 c.args.write.now c.args.write.now.ops (part c.begin_write.new.pass) (part c.apply_rows.new.pass) refl c.begin_write.ensures.pass.0.1 c.apply_rows.ensures.pass.0.1 began.0.1 c.in-Ok.ensures.aloft its c.requires.write.few in
-    (c.args.index, done)
+    (c.args.index, flies_first (number c.args.pass.now) (number c.begin_write.new.pass) c.args.index began.0.0 c.args.write.now c.requires.next.part (part c.args.pass.now) (part c.begin_write.new.pass) (seen c.args.pass.now) (seen c.begin_write.new.pass) c.requires.next.is c.begin_write.ensures.pass.0.1 began.1 began.0.1 c.requires.command c.requires.write.few)
 
 pub returns-in-Ok-clause-root : goal.returns-in-Ok-clause-root
-returns-in-Ok-clause-root g c =
-    let going = going_after (number c.args.pass.now) (number c.begin_write.new.pass) (part c.args.pass.now) (part c.begin_write.new.pass) (part c.apply_rows.new.pass) (seen c.args.pass.now) (seen c.begin_write.new.pass) (seen c.apply_rows.new.pass) c.begin_write.ensures.pass.0.1 (rw c.in-None.is at c.in_ok-reply.ensures.begun).1 c.apply_rows.ensures.going in
-    λ root h. c.end_write.ensures.root root (going.root root h)
+returns-in-Ok-clause-root g c = let began = rw c.in-None.is at c.in_ok-reply.ensures.begun in λ root h. c.finish_write.ensures.root root (began.1.root root h)
 
 pub returns-in-Ok-clause-reply : goal.returns-in-Ok-clause-reply
 returns-in-Ok-clause-reply g c =
     let began = rw c.in-None.is at c.in_ok-reply.ensures.begun in
-    let going = going_after (number c.args.pass.now) (number c.begin_write.new.pass) (part c.args.pass.now) (part c.begin_write.new.pass) (part c.apply_rows.new.pass) (seen c.args.pass.now) (seen c.begin_write.new.pass) (seen c.apply_rows.new.pass) c.begin_write.ensures.pass.0.1 began.1 c.apply_rows.ensures.going in
-    let its = command_after (number c.args.pass.now) (number c.apply_rows.new.pass) c.args.index (command.Write c.args.write.now) c.requires.next.part _ _ c.requires.next.is (c.apply_rows.ensures.pass.0.1 ∙ c.begin_write.ensures.pass.0.1) going.root c.requires.command in
-    let done = written (number c.args.pass.now) (number c.begin_write.new.pass) (number c.apply_rows.new.pass) c.args.index began.0.0 c.args.write.now c.args.write.now.ops (part c.begin_write.new.pass) (part c.apply_rows.new.pass) refl c.begin_write.ensures.pass.0.1 c.apply_rows.ensures.pass.0.1 began.0.1 c.in-Ok.ensures.aloft its c.requires.write.few in
-    after_going (number c.args.pass.now) (number c.apply_rows.new.pass) c.args.index c.end_write.result (part c.args.pass.now) (part c.apply_rows.new.pass) (part c.end_write.new.pass) (seen c.args.pass.now) (seen c.apply_rows.new.pass) (seen c.end_write.new.pass) (c.apply_rows.ensures.pass.0.1 ∙ c.begin_write.ensures.pass.0.1) going (c.end_write.ensures.reply c.args.index done)
+    let flying = flies_first (number c.args.pass.now) (number c.begin_write.new.pass) c.args.index began.0.0 c.args.write.now c.requires.next.part (part c.args.pass.now) (part c.begin_write.new.pass) (seen c.args.pass.now) (seen c.begin_write.new.pass) c.requires.next.is c.begin_write.ensures.pass.0.1 began.1 began.0.1 c.requires.command c.requires.write.few in
+    after_going (number c.args.pass.now) (number c.begin_write.new.pass) c.args.index c.in-Ok.reply (part c.args.pass.now) (part c.begin_write.new.pass) (part c.finish_write.new.pass) (seen c.args.pass.now) (seen c.begin_write.new.pass) (seen c.finish_write.new.pass) c.begin_write.ensures.pass.0.1 began.1 (c.in-Ok.ensures.reply c.args.index flying)
 
 pub returns-in-Err-Stopped-clause-root : goal.returns-in-Err-Stopped-clause-root
-returns-in-Err-Stopped-clause-root g c =
-    let going = going_after (number c.args.pass.now) (number c.begin_write.new.pass) (part c.args.pass.now) (part c.begin_write.new.pass) (part c.apply_rows.new.pass) (seen c.args.pass.now) (seen c.begin_write.new.pass) (seen c.apply_rows.new.pass) c.begin_write.ensures.pass.0.1 (rw c.in-None.is at c.in_ok-reply.ensures.begun).1 c.apply_rows.ensures.going in
-    λ root h. going.root root h
+returns-in-Err-Stopped-clause-root g c = let began = rw c.in-None.is at c.in_ok-reply.ensures.begun in λ root h. c.finish_write.ensures.root root (began.1.root root h)
 
 pub returns-in-Err-Memory-clause-root : goal.returns-in-Err-Memory-clause-root
-returns-in-Err-Memory-clause-root g c =
-    let going = going_after (number c.args.pass.now) (number c.begin_write.new.pass) (part c.args.pass.now) (part c.begin_write.new.pass) (part c.apply_rows.new.pass) (seen c.args.pass.now) (seen c.begin_write.new.pass) (seen c.apply_rows.new.pass) c.begin_write.ensures.pass.0.1 (rw c.in-None.is at c.in_ok-reply.ensures.begun).1 c.apply_rows.ensures.going in
-    λ root h. going.root root h
+returns-in-Err-Memory-clause-root g c = let began = rw c.in-None.is at c.in_ok-reply.ensures.begun in λ root h. c.finish_write.ensures.root root (began.1.root root h)
 
 pub returns-in-Err-Memory-clause-memory : goal.returns-in-Err-Memory-clause-memory
 returns-in-Err-Memory-clause-memory g c =
-    let going = going_after (number c.args.pass.now) (number c.begin_write.new.pass) (part c.args.pass.now) (part c.begin_write.new.pass) (part c.apply_rows.new.pass) (seen c.args.pass.now) (seen c.begin_write.new.pass) (seen c.apply_rows.new.pass) c.begin_write.ensures.pass.0.1 (rw c.in-None.is at c.in_ok-reply.ensures.begun).1 c.apply_rows.ensures.going in
-    going
+    let began = rw c.in-None.is at c.in_ok-reply.ensures.begun in
+    going_after (number c.args.pass.now) (number c.begin_write.new.pass) (part c.args.pass.now) (part c.begin_write.new.pass) (part c.finish_write.new.pass) (seen c.args.pass.now) (seen c.begin_write.new.pass) (seen c.finish_write.new.pass) c.begin_write.ensures.pass.0.1 began.1 c.in-Err-Memory.ensures.going
 
 pub returns-in-Ok-clause-answer : goal.returns-in-Ok-clause-answer
-returns-in-Ok-clause-answer g c = λ ne. is_answered (part c.args.pass.now) (part c.end_write.new.pass) (seen c.args.pass.now) (seen c.end_write.new.pass) (number c.args.pass.now) c.args.index c.end_write.result ne (returns-in-Ok-clause-reply g c) c.in_ok-reply.ensures.open
+returns-in-Ok-clause-answer g c = λ ne. is_answered (part c.args.pass.now) (part c.finish_write.new.pass) (seen c.args.pass.now) (seen c.finish_write.new.pass) (number c.args.pass.now) c.args.index c.in-Ok.reply ne (returns-in-Ok-clause-reply g c) c.in_ok-reply.ensures.open
 
 pub returns-in-Some-clause-answer : goal.returns-in-Some-clause-answer
 returns-in-Some-clause-answer g c = λ ne. is_answered (part c.args.pass.now) (part c.begin_write.new.pass) (seen c.args.pass.now) (seen c.begin_write.new.pass) (number c.args.pass.now) c.args.index c.in-Some.reply ne (rw c.in-Some.is at c.in_ok-reply.ensures.begun).0 c.in_ok-reply.ensures.open
@@ -68,10 +51,10 @@ pub returns-in-Ok-clause-begun : goal.returns-in-Ok-clause-begun
 returns-in-Ok-clause-begun g c = λ ts outcomes e. subst (λ n. g.G.Gate.came c.args.gate.now (point.Begun n c.args.index)) c.number-session.ensures c.at.ensures
 
 pub returns-in-Ok-clause-rests : goal.returns-in-Ok-clause-rests
-returns-in-Ok-clause-rests g c = c.end_write.ensures.rests (c.apply_rows.ensures.rests c.begin_write.ensures.rests)
+returns-in-Ok-clause-rests g c = c.finish_write.ensures.rests c.begin_write.ensures.rests
 
 pub returns-in-Err-Stopped-clause-rests : goal.returns-in-Err-Stopped-clause-rests
-returns-in-Err-Stopped-clause-rests g c = c.apply_rows.ensures.rests c.begin_write.ensures.rests
+returns-in-Err-Stopped-clause-rests g c = c.finish_write.ensures.rests c.begin_write.ensures.rests
 
 pub returns-in-Err-Memory-clause-rests : goal.returns-in-Err-Memory-clause-rests
-returns-in-Err-Memory-clause-rests g c = c.apply_rows.ensures.rests c.begin_write.ensures.rests
+returns-in-Err-Memory-clause-rests g c = c.finish_write.ensures.rests c.begin_write.ensures.rests
