@@ -94,7 +94,7 @@ module _ (L : RattleType) (g : Disk.Ghosts L.Denot) where
 module _ (D : RattleType) (g : Disk.Ghosts D.Denot) where
   pub store_send : IsSend D → IsSend (StoreSide.the_row D g)
   store_send d = view_send (Kept.the_row D g) _ _ _ _ (recorded_send (Kept.the_field D g).row _ _ (Kept.the_type D g).to_one (struct_send (shape (Kept.the_type D g))
-      (search (sendable, crosses, d) depth 20, (plain_send _ _ _ _ _, (plain_send _ _ _ _ _, (meta.the_field_send, (plain_send _ _ _ _ _, (plain_send _ _ _ _ _, (search (sendable, crosses), (search (sendable, crosses), (search (sendable, crosses), tt)))))))))))
+      (search (sendable, crosses, d) depth 20, (plain_send _ _ _ _ _, (plain_send _ _ _ _ _, (meta.the_field_send, (plain_send _ _ _ _ _, (plain_send _ _ _ _ _, (search (sendable, crosses), (search (sendable, crosses), (search (sendable, crosses), (plain_send _ _ _ _ _, (search (sendable, crosses), (search (sendable, crosses), (search (sendable, crosses), tt)))))))))))))))
 
 -- what passes have of maintenance, and their jobs
 job_send : IsSend Job.the_row
