@@ -31,9 +31,10 @@ fn no_calls(alloc: Global) -> CallList {
     CallList::of(Vec::new(alloc))
 }
 
-fn room(alloc: Global) -> Result<MemSink, NoMemory> {
+// Room for so many bytes.
+fn room(alloc: Global, bytes: usize) -> Result<MemSink, NoMemory> {
     let mut sink = MemSink::new(alloc, no_calls(alloc));
-    sink.reserve(4096)?;
+    sink.reserve(bytes)?;
     Ok(sink)
 }
 
@@ -50,13 +51,33 @@ fn run<R: Threads + Wait + Sync, L: Disk + Send + Drop, D: Disk + Send + Drop, G
     requires openable { IsTrue L.tells → CanOpen L.now L.leaves log }
     requires stand { IsTrue D.tells → NamedStand D.seen D.now D.leaves store }
 {
-    let clock = MemClock::of(ReadingList::of(vec![in alloc; 5, 3]?));
+    let readings = vec![in alloc; 5, 3]?;
+    let sink = room(alloc, 4096)?;
+    run_into(rt, alloc, &["run"], lines, readings, sink, log, store, gate)
+}
+
+// The same with these words, at these readings, into a sink.
+fn run_into<R: Threads + Wait + Sync, L: Disk + Send + Drop, D: Disk + Send + Drop, G: Gate + Sync>(
+    rt: &R,
+    alloc: Global,
+    words: &[&str],
+    lines: &[u8],
+    readings: Vec<u64>,
+    sink: MemSink,
+    log: L,
+    store: D,
+    gate: &G,
+) -> Result<(u8, MemSink, L, D), NoMemory>
+    requires openable { IsTrue L.tells → CanOpen L.now L.leaves log }
+    requires stand { IsTrue D.tells → NamedStand D.seen D.now D.leaves store }
+{
+    let clock = MemClock::of(ReadingList::of(readings));
     let mut source = MemSource::of(script(alloc, lines)?, no_calls(alloc));
-    let mut sink = room(alloc)?;
+    let mut sink = sink;
     let ended = tablet_main(
         rt,
         alloc,
-        &["run"],
+        words,
         &mut source,
         &mut sink,
         log,

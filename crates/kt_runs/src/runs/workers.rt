@@ -1,14 +1,18 @@
 //! A worker beside a session that writes much.
 
-use super::{no_calls, script};
+ghost use Rattle.std.specs.Prelude.{◌≡◌, []};
+
+use super::crashes::{Devices, empty};
+use super::schedules::NONE;
+use super::{room, run_into};
 use crate::hold::{HoldGate, Moment, Rule};
-use crate::runs::schedules::NONE;
-use kt_app::tablet_main;
-use kt_base::{MemClock, MemSink, MemSource, NoMemory, Octets, ReadingList};
-use kt_disk::{MemDisk, Point};
+use kt_base::{MemSink, NoMemory, Octets};
+use kt_disk::{Gate, Point};
 use memchr::memmem;
 use std::alloc::Global;
+use std::sync::Wait;
 use std::test::Fail;
+use std::thread::Threads;
 
 // The rows that are written, 64 by a write, and the command that reads them then.
 const ROWS: u64 = 8_192;
@@ -26,6 +30,27 @@ fn lines(alloc: Global) -> Result<Octets, NoMemory> {
     Ok(lines)
 }
 
+// The status and the output of these lines beside a worker, over devices to which nothing was done yet. The clock rises at each command.
+fn run_beside<R: Threads + Wait + Sync, G: Gate + Sync>(
+    rt: &R,
+    alloc: Global,
+    lines: &[u8],
+    devices: Devices,
+    gate: &G,
+) -> Result<(u8, MemSink), NoMemory>
+    requires { (devices.log.calls ≡ []) × (devices.store.calls ≡ []) }
+{
+    let words = ["run", "--workers", "1"];
+    let mut readings = Vec::new(alloc);
+    for reading in 1..=u64::from(LAST) {
+        readings.push(reading)?;
+    }
+    let sink = room(alloc, 262_144)?;
+    let Devices { log, store } = devices;
+    let (status, sink, ..) = run_into(rt, alloc, &words, lines, readings, sink, log, store, gate)?;
+    Ok((status, sink))
+}
+
 #[test]
 fn a_worker_flushes_what_a_session_writes(rt: HostRuntime) -> Result<(), Fail> {
     let alloc = rt.alloc();
@@ -38,25 +63,9 @@ fn a_worker_flushes_what_a_session_writes(rt: HostRuntime) -> Result<(), Fail> {
         until: Moment::AnyPublished,
     };
     let gate = HoldGate::of(&rt, until_published, NONE);
-    let mut readings = Vec::new(alloc);
-    for reading in 1..=u64::from(LAST) {
-        readings.push(reading)?;
-    }
-    let mut source = MemSource::of(script(alloc, lines(alloc)?.as_slice())?, no_calls(alloc));
-    let mut sink = MemSink::new(alloc, no_calls(alloc));
-    sink.reserve(262_144)?;
-    let ended = tablet_main(
-        &rt,
-        alloc,
-        &["run", "--workers", "1"],
-        &mut source,
-        &mut sink,
-        MemDisk::new(alloc),
-        MemDisk::new(alloc),
-        MemClock::of(ReadingList::of(readings)),
-        &gate,
-    );
-    assert_eq!(rt; (ended.status, gate.gave_up()), (0, false));
+    let lines = lines(alloc)?;
+    let (status, sink) = run_beside(&rt, alloc, lines.as_slice(), empty(alloc), &gate)?;
+    assert_eq!(rt; (status, gate.gave_up()), (0, false));
     assert!(rt; memmem::find(sink.bytes(), b"\nrows 528384 8192\n").is_some());
     assert!(rt;
         sink.bytes()
