@@ -50,7 +50,7 @@ found_place q n (r ∷ rows) found e = by (eq_by_cmp key_cmp q r.key) refl e (λ
         record { place = suc f.place; inside = omega arith; at = omega arith; key = f.key }
 
 -- rows of one place have one key
-same_place : (q k : List ℕ) (rows : List KeyedRow) (f g : ℕ × Row) → row_under q 0 (rows_of rows) ≡ Some f → row_under k 0 (rows_of rows) ≡ Some g → g.0 ≡ f.0 → k ≡ q
+pub same_place : (q k : List ℕ) (rows : List KeyedRow) (f g : ℕ × Row) → row_under q 0 (rows_of rows) ≡ Some f → row_under k 0 (rows_of rows) ≡ Some g → g.0 ≡ f.0 → k ≡ q
 same_place q k rows f g ef eg same =
     let a = found_place q 0 rows f ef in
     let b = found_place k 0 rows g eg in
@@ -65,7 +65,7 @@ found_same q rows i rise low key m e =
     let first : 0 + i ≡ m.0 = ap (λ (x : ℕ × Row). x.0) same in
     omega arith
 
-join : {A : Type 0} (b : Bool) (x : A) (xs : List A) → cond b (x ∷ []) [] ++ xs ≡ cond b (x ∷ xs) xs
+pub join : {A : Type 0} (b : Bool) (x : A) (xs : List A) → cond b (x ∷ []) [] ++ xs ≡ cond b (x ∷ xs) xs
 join true x xs = refl
 join false x xs = refl
 
@@ -160,13 +160,13 @@ pub told_more : {X A : Type 0} (f : X → List A) (xs : List X) (k : ℕ) (x : X
 told_more f xs k x lt is = ap (flat_map f) (take_more_of xs k x lt is) ∙ flat_map-append f (take k xs) (x ∷ []) ∙ ap (λ l. flat_map f (take k xs) ++ l) (append-nil (f x))
 
 -- a record more
-pub moved_more : (f : Delta → List Delta) (fresh : List Delta) (k : ℕ) (x : Delta) (old new : List Delta) (o : Option Delta) → k < length fresh → x ≡ get_or fresh k x
+pub moved_more : {X : Type 0} (f : X → List Delta) (fresh : List X) (k : ℕ) (x : X) (old new : List Delta) (o : Option Delta) → k < length fresh → x ≡ get_or fresh k x
     → option_to_list o ≡ f x → new ≡ old ++ option_to_list o → old ≡ flat_map f (take k fresh) → new ≡ flat_map f (take (k + 1) fresh)
 moved_more f fresh k x old new o lt is one added so =
     added ∙ ap (λ (l : List Delta). l ++ option_to_list o) so ∙ ap (λ (l : List Delta). flat_map f (take k fresh) ++ l) one ∙ sym (told_more f fresh k x lt is)
 
 -- a file more
-pub files_more : (n : ℕ) (f : RowSetData → Steps) (inputs : List RowSetData) (k : ℕ) (x : RowSetData) (old new : List FileHeld) (file : FileHeld) → k < length inputs → x ≡ get_or inputs k x
+pub files_more : {X : Type 0} (n : ℕ) (f : X → Steps) (inputs : List X) (k : ℕ) (x : X) (old new : List FileHeld) (file : FileHeld) → k < length inputs → x ≡ get_or inputs k x
     → new ≡ old ++ file ∷ [] → records_for n file.deltas.value.list ≡ f x → records_in n (lists_of old) ≡ flat_map f (take k inputs) → records_in n (lists_of new) ≡ flat_map f (take (k + 1) inputs)
 files_more n f inputs k x old new file lt is added one so =
     ap (λ (l : List FileHeld). records_in n (lists_of l)) added ∙ ap (records_in n) (map-append (λ (g : FileHeld). g.deltas.value.list) old (file ∷ []))

@@ -33,4 +33,5 @@ pub mod AllUndone
 pub mod Holding
 pub mod ToldInOrder
 pub mod LateMoved
+pub mod LatePlaced
 pub mod LateTold

@@ -2,6 +2,7 @@
 use Rattle.std.specs.Prelude.{◌≡◌, ◌&&◌, ℕ, nat_lt, List, [], ◌∷◌, length, map, Option, Some, None, if◌then◌else◌}
 use Rattle.std.specs.List.{AllByRecursion, flat_map}
 use Rattle.kt_history.specs.declared.changes.Delta.{Delta}
+use Rattle.kt_history.specs.declared.changes.KeyChange.{KeyChange}
 use Rattle.kt_history.specs.Rows.{Row, Rows}
 use Rattle.kt_history.specs.Stores.{Steps, Hist, hist_in}
 use Rattle.kt_history.specs.Views.{AreRising}
@@ -16,6 +17,7 @@ use Rattle.kt_rowfiles.specs.Merging.{all_above}
 use Rattle.kt_diskrowset.specs.declared.data.RowSetData.{RowSetData}
 use Rattle.kt_diskrowset.specs.Data.{files_in, store_in}
 use Rattle.kt_diskrowset.specs.Rows.{rows_of}
+use Rattle.kt_merge.specs.Changes.{hist_in_changes}
 
 -- ---- by histories
 
@@ -59,6 +61,26 @@ AllTellLate bound inputs [] [] = Unit {0}
 AllTellLate bound inputs [] (d ∷ ds) = ⊥
 AllTellLate bound inputs (o ∷ os) [] = ⊥
 AllTellLate bound inputs (o ∷ os) (d ∷ ds) = TellsLate bound inputs o d × AllTellLate bound inputs os ds
+
+-- or with those that lists of changes have above a bound
+abbrev pub TellsChanges : ℕ → List (List KeyChange) → RowSetData → RowSetData → Type 0
+TellsChanges bound lists output d = (q : List ℕ) → hist_in_files q (files_in d) ≡ hist_with q (late_of bound (map (hist_in_changes q) lists)) (files_in output)
+
+-- and several, each in its place
+abbrev pub AllTellChanges : ℕ → List (List KeyChange) → List RowSetData → List RowSetData → Type 0
+AllTellChanges bound lists [] [] = Unit {0}
+AllTellChanges bound lists [] (d ∷ ds) = ⊥
+AllTellChanges bound lists (o ∷ os) [] = ⊥
+AllTellChanges bound lists (o ∷ os) (d ∷ ds) = TellsChanges bound lists o d × AllTellChanges bound lists os ds
+
+-- a change as a record at the place that its key has among rows, if it is one of theirs
+abbrev pub placed_at : KeyChange → Option (ℕ × Row) → List Delta
+placed_at c None = []
+placed_at c (Some found) = record { ordinal = found.0; ts = c.ts; change = c.change } ∷ []
+
+-- and only if it lies above a bound
+abbrev pub placed_of : ℕ → Rows → KeyChange → List Delta
+placed_of bound rows c = if nat_lt bound c.ts then placed_at c (row_under c.key 0 rows) else []
 
 -- a record at the place that its key has among other rows, if it is one of theirs
 abbrev pub moved_at : Delta → Option (ℕ × Row) → List Delta

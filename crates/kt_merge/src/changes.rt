@@ -51,8 +51,8 @@ fn change_of(alloc: Global, kind: Kindly, cells: CellsRef<'_>) -> Result<Change,
     }
 }
 
-// A copy of a change that is read where it lies.
-fn delta_of(alloc: Global, change: ChangeRef<'_>) -> Result<Delta, NoMemory>
+/// A copy of a change that is read where it lies, as a record of no row.
+pub(crate) fn delta_of(alloc: Global, change: ChangeRef<'_>) -> Result<Delta, NoMemory>
     ensures { IfOk result (λ delta. step_in delta ≡ step_read change.entry) }
 {
     Ok(Delta {

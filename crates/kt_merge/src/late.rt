@@ -110,9 +110,13 @@ fn late_files(
     Ok(FileLists::of(files))
 }
 
-// A disk rowset without a change in memory, with one REDO file more, which is not written yet, if that has records. Where one of them does
-// not lie above the REDO records of its row it is as for want of memory.
-fn with_redo(alloc: Global, rowset: RowSetData, file: DeltaFile) -> Result<RowSetData, NoMemory>
+/// A disk rowset without a change in memory, with one REDO file more, which is not written yet, if that has records. Where one of them does
+/// not lie above the REDO records of its row it is as for want of memory.
+pub(crate) fn with_redo(
+    alloc: Global,
+    rowset: RowSetData,
+    file: DeltaFile,
+) -> Result<RowSetData, NoMemory>
     requires redo { file.way ≡ Redo }
     requires none { rowset.fresh ≡ [] }
     ensures same { IfOk result (IsRewritten (record rowset { fresh = file.list })) }

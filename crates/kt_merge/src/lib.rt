@@ -4,7 +4,7 @@
 //! to a bound; `major` folds a rowset's REDO records into its base rows, which then tell the same; `minor` makes one REDO file of
 //! several, with all their records; `with_deltas`, `with_one_redo` and `with_folded` write one rowset's files anew, so that they tell
 //! exactly what it told; `folded_whole` is both of the first and the last, with each row's changes in their order. `with_late` puts into an output what its
-//! inputs took since they were read. It stands on disk rowsets as plain data, on base files and delta files, and on the definitions of
+//! inputs took since they were read, and `with_changes` what the lists of a flush have. It stands on disk rowsets as plain data, on base files and delta files, and on the definitions of
 //! changes and of histories.
 #![tactic(auto)]
 
@@ -18,6 +18,7 @@ pub mod laws;
 pub mod merge;
 pub mod output;
 pub mod outputs;
+pub mod placing;
 pub mod redo;
 pub mod refold;
 pub mod rewrite;
@@ -28,6 +29,7 @@ pub use compacting::folded_whole;
 pub use folding::{Folded, major};
 pub use late::with_late;
 pub use merge::merge_rows;
+pub use placing::with_changes;
 pub use redo::{merge_files, minor};
 pub use refold::with_folded;
 pub use rewrite::{with_deltas, with_one_redo};
