@@ -1,19 +1,20 @@
 -- New disk rowsets as a superblock names them.
-use Rattle.std.proofs.Common.{◌≡◌, ◌≤◌, ◌<◌, ◌+◌, ℕ, suc, Bool, true, false, List, [], ◌∷◌, ◌++◌, map, length, refl, sym, ap, subst, ◌∙◌, arith}
+use Rattle.std.proofs.Common.{◌≡◌, ◌≤◌, ◌<◌, ◌+◌, ℕ, suc, Bool, true, false, List, [], ◌∷◌, ◌++◌, map, length, inl, inr, refl, sym, ap, subst, ◌∙◌, arith}
 use Rattle.std.specs.Prelude.{◌==◌, ◌||◌, ◌&&◌, not, nat_le, nat_lt}
 use Rattle.std.specs.List.{AllByRecursion}
-use Rattle.std.proofs.lemmas.Bool.{lt-ltb, le-leb, ltb-true, eqb-true}
+use Rattle.std.proofs.lemmas.Bool.{false≢true, cases_lt, lt-ltb, le-leb, ltb-true, eqb-true}
 use Rattle.std.proofs.lemmas.Bool.Decides.{nat_tests}
 use Rattle.std.proofs.lemmas.List.Folds.{list_any-append}
 use Rattle.kt_base.proofs.Values.{both_true, both}
 use Rattle.kt_super.specs.declared.meta.FileRef.{FileRef}
 use Rattle.kt_super.specs.declared.meta.MetaRowset.{MetaRowset}
 use Rattle.kt_super.specs.Rowsets.{has, numbers_of, is_small, IsFile, AreFiles, taken_by, IsRowset, AreRowsets}
-use Rattle.kt_files.specs.Named.{named_by, named_in}
+use Rattle.kt_disk.specs.Disk.{Files}
+use Rattle.kt_files.specs.Named.{named_by, named_in, HasNamed}
 use Rattle.kt_diskrowset.specs.declared.files.FileHeld.{FileHeld}
 use Rattle.kt_diskrowset.specs.declared.data.RowSetData.{RowSetData}
 use Rattle.kt_rowfiles.specs.Files.{DiskRowset}
-use Rattle.kt_outputs.specs.Outputs.{delta_ref, meta_in, delta_numbers, file_numbers, all_file_numbers, CountUp, AreWritten}
+use Rattle.kt_outputs.specs.Outputs.{delta_ref, meta_in, delta_numbers, file_numbers, all_file_numbers, CountUp, AreThere, AreWritten}
 use Rattle.kt_outputs.specs.Named.{AreShortFiles, IsShort, AreShort, outputs_come_behind, outputs_stand}
 
 -- one more of which the same holds
@@ -227,3 +228,31 @@ stand rowsets file file_later done files c count there named n is = by (has (nam
         ap (λ (l : List ℕ). has l n) (sym (named_files done)) ∙ sym (ap (λ (b : Bool). b || has (named_in (map (meta_in 0) done)) n) e) ∙ sym (named_join rowsets (map (meta_in 0) done) n) ∙ is in
         let both_ends = among file file_later n (all_file_numbers done) count own in
         there n both_ends.0 both_ends.1
+
+-- ---- those that were written before
+
+named_below : (rowsets : List MetaRowset) (next_rowset next_file least : ℕ) (taken : List ℕ) → AreRowsets next_rowset next_file least taken rowsets → AreBelow next_file (named_in rowsets)
+named_below [] next_rowset next_file least taken are = tt
+named_below (r ∷ rowsets) next_rowset next_file least taken are =
+    below_join next_file (named_by r) (named_in rowsets) (
+      file_below next_file taken r.base are.0.base,
+      below_join next_file (numbers_of r.undo) (numbers_of r.redo) (files_below next_file (taken ++ r.base.file ∷ []) r.undo are.0.undo) (files_below next_file (taken ++ r.base.file ∷ [] ++ numbers_of r.undo) r.redo are.0.redo),
+    )
+    (named_below rowsets next_rowset next_file (r.rowset + 1) (taken_by taken r) are.1)
+
+one_below : (n k : ℕ) (xs : List ℕ) → AreBelow n xs → has xs k ≡ true → k < n
+one_below n k xs are is = elim (cases_lt k n) [
+  | inl lt ↦ lt
+  | inr up ↦ absurd (false≢true (sym (is_none_of n k xs are up) ∙ is))
+]
+
+-- their files have numbers below the next one
+pub named_before : (rowsets : List MetaRowset) (next_rowset next_file : ℕ) (done : List RowSetData) (files later : Files) → AreRowsets next_rowset next_file 0 [] (rowsets ++ map (meta_in 0) done) → AreThere 0 next_file files later
+    → HasNamed (map (meta_in 0) done) files later
+named_before rowsets next_rowset next_file done files later are there n is =
+    let own = map (meta_in 0) done in
+    there n (omega arith) (one_below next_file n (named_in (rowsets ++ own)) (named_below (rowsets ++ own) next_rowset next_file 0 [] are) (named_join rowsets own n ∙ behind_any (has (named_in rowsets) n) (has (named_in own) n) is))
+  where
+    behind_any : (a b : Bool) → b ≡ true → (a || b) ≡ true
+    behind_any true b e = refl
+    behind_any false b e = e

@@ -5,8 +5,10 @@ use Rattle.kt_disk.specs.Disk.{Files}
 use Rattle.kt_super.specs.declared.meta.MetaRowset.{MetaRowset}
 use Rattle.kt_super.specs.Rowsets.{is_small, AreRowsets}
 use Rattle.kt_files.specs.Named.{HasNamed}
+use Rattle.kt_files.specs.Reading.{HoldAll}
 use Rattle.kt_diskrowset.specs.declared.files.FileHeld.{FileHeld}
 use Rattle.kt_diskrowset.specs.declared.data.RowSetData.{RowSetData}
+use Rattle.kt_diskrowset.specs.Data.{held_in}
 use Rattle.kt_outputs.specs.Outputs.{meta_in, all_file_numbers, CountUp, AreThere, AreWritten}
 
 -- a superblock can spell the length of each file
@@ -32,3 +34,9 @@ outputs_come_behind = (rowsets : List MetaRowset) (next_rowset next_file rowset 
 abbrev pub outputs_stand : Type 0
 outputs_stand = (rowsets : List MetaRowset) (file file_later : ℕ) (done : List RowSetData) (files c : Files)
     → CountUp file file_later (all_file_numbers done) → AreThere file file_later files c → HasNamed rowsets files c → HasNamed (rowsets ++ map (meta_in 0) done) files c
+
+-- And rowsets that a superblock may name hold what they did, where all files below its next number stay as they were.
+abbrev pub others_hold_beside_outputs : Type 0
+others_hold_beside_outputs = (rowsets : List MetaRowset) (next_rowset next_file : ℕ) (done : List RowSetData) (files later : Files)
+    → AreRowsets next_rowset next_file 0 [] (rowsets ++ map (meta_in 0) done) → AreThere 0 next_file files later
+    → HoldAll files (map (meta_in 0) done) (map held_in done) → HoldAll later (map (meta_in 0) done) (map held_in done)

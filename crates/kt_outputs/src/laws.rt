@@ -1,8 +1,10 @@
 //! Laws of disk rowsets that were written and that a superblock is to name.
-ghost use Rattle.kt_outputs.specs.Named.{outputs_come_behind, outputs_stand};
+ghost use Rattle.kt_outputs.specs.Named.{outputs_come_behind, outputs_stand, others_hold_beside_outputs};
 ghost use Rattle.kt_outputs.specs.Fewer.{some_may_be_named, some_stand};
 ghost use Rattle.kt_outputs.specs.Again.{late_files_may_be_named, late_files_stand, others_hold_beside_late_files};
 ghost use Rattle.kt_outputs.specs.InPlace.{a_rewritten_rowset_comes_in_place, a_rewritten_rowset_stands_in_place};
+
+use kt_files::laws::same_law;
 
 /// Rowsets that were written under the next numbers may stand behind those that a superblock names.
 pub fn behind_law()
@@ -13,6 +15,13 @@ pub fn behind_law()
 pub fn stand_law()
     ensures { outputs_stand }
 {}
+
+/// Disk rowsets that were written before others hold what they did.
+pub fn beside_law()
+    ensures { others_hold_beside_outputs }
+{
+    same_law();
+}
 
 /// A disk rowset that was written again may stand in the place of the one of its number, and its files stand.
 pub fn in_place_law()
