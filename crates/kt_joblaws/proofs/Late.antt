@@ -168,7 +168,7 @@ one_late bound (w ∷ was) (n ∷ now) one under has = by has.0.late refl (one_l
 
 -- ---- the stores as they were read, from the bound on
 
-no_step : (ts t : ℕ) (hs : List Hist) → AllUnder ts hs → ts ≤ t → first_some (map (step_of t) hs) ≡ None
+pub no_step : (ts t : ℕ) (hs : List Hist) → AllUnder ts hs → ts ≤ t → first_some (map (step_of t) hs) ≡ None
 no_step ts t [] u le = refl
 no_step ts t (h ∷ hs) u le = ap (λ (o : Option Change). or_else o (first_some (map (step_of t) hs))) (none_under ts t h.steps u.0 le) ∙ no_step ts t hs u.1 le
 
@@ -291,11 +291,11 @@ module _ (rules : Rules) where
       by true p rest = let more = rest p.1 in (more.0, (p.0, more.1))
       by false p rest = (p.0, p.1)
 
-  rising_passes : (steps : Steps) → StepsPass rules steps → StepsPass rules (rising steps)
+  pub rising_passes : (steps : Steps) → StepsPass rules steps → StepsPass rules (rising steps)
   rising_passes [] p = tt
   rising_passes (x ∷ steps) p = put_passes x (rising steps) p.0 (rising_passes steps p.1)
 
-  rising_passed : (steps : Steps) → StepsPass rules (rising steps) → StepsPass rules steps
+  pub rising_passed : (steps : Steps) → StepsPass rules (rising steps) → StepsPass rules steps
   rising_passed [] p = tt
   rising_passed (x ∷ steps) p = let more = put_passed x (rising steps) p in (more.0, rising_passed steps more.1)
 
@@ -315,11 +315,11 @@ module _ (rules : Rules) where
       (above_pass j bound hs le (steps_behind rules (steps_above j h.steps) (all_above j hs) p))
 
 -- where nothing lies above the mark nothing came later
-first_empty : (xs ys : Steps) → xs ++ ys ≡ [] → xs ≡ []
+pub first_empty : (xs ys : Steps) → xs ++ ys ≡ [] → xs ≡ []
 first_empty [] ys e = refl
 first_empty (x ∷ xs) ys e = absurd (cc)
 
-rest_empty : (xs ys : Steps) → xs ++ ys ≡ [] → ys ≡ []
+pub rest_empty : (xs ys : Steps) → xs ++ ys ≡ [] → ys ≡ []
 rest_empty [] ys e = e
 rest_empty (x ∷ xs) ys e = absurd (cc)
 
@@ -331,7 +331,7 @@ none_put x (y ∷ ys) e = by (nat_lt y.0 x.0) e
     by true e = cc
     by false e = cc
 
-none_rising : (steps : Steps) → rising steps ≡ [] → steps ≡ []
+pub none_rising : (steps : Steps) → rising steps ≡ [] → steps ≡ []
 none_rising [] e = refl
 none_rising (x ∷ steps) e = absurd (none_put x (rising steps) e)
 

@@ -1,4 +1,5 @@
 pub mod Among
+pub mod Beside
 pub mod ChangesOver
 pub mod Compacted
 pub mod Groups
@@ -14,6 +15,7 @@ pub mod OnceEach
 pub mod Passed
 pub mod Passing
 pub mod PassingHistories
+pub mod Pushed
 pub mod Read
 pub mod Rewritten
 pub mod Standing

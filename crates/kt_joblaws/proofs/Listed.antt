@@ -13,9 +13,11 @@ use Rattle.kt_base.proofs.Values.{both_true}
 use Rattle.kt_history.specs.declared.change.Change.{Change}
 use Rattle.kt_history.specs.declared.changes.KeyChange.{KeyChange}
 use Rattle.kt_history.specs.AsBytes.{step_of}
-use Rattle.kt_history.specs.Grown.{AllBare, IsGrown}
+use Rattle.kt_history.specs.Grown.{AllBare, IsGrown, AllGrown}
 use Rattle.kt_history.specs.Rows.{Row, key_cmp}
 use Rattle.kt_history.specs.Stores.{Steps, Hist, Store, Under, never, hist_in, key_change, row_changes, changes_upto}
+use Rattle.kt_histlaws.specs.Flights.{AllUnder}
+use Rattle.kt_histlaws.specs.Histories.{hists}
 use Rattle.kt_merge.specs.Changes.{changes_of, steps_of, hist_in_changes}
 use Rattle.kt_merge.specs.Heads.{hist_upto}
 use Rattle.kt_merge.proofs.KeyChanges.{same_key, by_bool}
@@ -89,6 +91,17 @@ whole bound q store grown under =
     let all : steps_of q (changes_upto bound store) ≡ (hist_in q store).steps = told.0 ∙ upto_all bound (hist_in q store).steps under in
     ap (λ (l : Steps). record { first = None; steps = upto bound l }) all ∙ ap (λ (l : Steps). record { first = None; steps = l }) (upto_all bound (hist_in q store).steps under)
     ∙ ap (λ (o : Option Row). record { first = o; steps = (hist_in q store).steps }) (sym told.1)
+
+-- uncut
+one_has : (bound : ℕ) (q : List ℕ) (store : Store) → IsGrown store → Under (suc bound) (hist_in q store).steps → hist_in_changes q (changes_upto bound store) ≡ hist_in q store
+one_has bound q store grown under =
+    let told = listed bound q store grown.sorted grown.bare in
+    ap (λ (l : Steps). record { first = None; steps = l }) (told.0 ∙ upto_all bound (hist_in q store).steps under) ∙ ap (λ (o : Option Row). record { first = o; steps = (hist_in q store).steps }) (sym told.1)
+
+pub they_have : (bound : ℕ) (q : List ℕ) (stores : List Store) → AllGrown stores → AllUnder (suc bound) (hists q stores) → map (hist_in_changes q) (map (changes_upto bound) stores) ≡ hists q stores
+they_have bound q [] grown under = refl
+they_have bound q (store ∷ stores) grown under =
+    ap (λ (h : Hist). h ∷ map (hist_in_changes q) (map (changes_upto bound) stores)) (one_has bound q store grown.0 under.0) ∙ ap (λ (l : List Hist). hist_in q store ∷ l) (they_have bound q stores grown.1 under.1)
 
 pub they_tell : lists_tell_all
 they_tell bound q [] grown under = refl

@@ -1,4 +1,5 @@
 pub mod Apart
+pub mod Beside
 pub mod ChangesOver
 pub mod Compacts
 pub mod DeltaJobs

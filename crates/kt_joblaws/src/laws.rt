@@ -6,6 +6,7 @@ ghost use Rattle.kt_joblaws.specs.Outputs.{outputs_pass, lists_tell_all, lists_r
 ghost use Rattle.kt_joblaws.specs.Apart.{stores_that_stand_are_apart, some_are_apart, those_are_apart, a_joined_history_is_shown, a_flush_reads_no_fault};
 ghost use Rattle.kt_joblaws.specs.InMemory.{what_memory_has_passes};
 ghost use Rattle.kt_joblaws.specs.Late.{what_was_read_has_nothing_later, a_change_comes_later, late_changes_are_apart, late_changes_make_alike, late_changes_pass, late_outputs_are_alike, a_late_output_passes, outputs_have_a_key_once};
+ghost use Rattle.kt_joblaws.specs.Beside.{alike_beside, alike_in_turn, sound_beside, numbers_differ_beside, passing_beside, each_part_is_apart, each_part_passes};
 ghost use Rattle.kt_joblaws.specs.DeltaJobs.{a_rewritten_rowset_stands, a_rowset_of_passing_histories_passes, histories_of_passing_rowsets_pass};
 
 /// The superblock of a flush stands over the stores with its outputs.
@@ -104,4 +105,16 @@ pub fn late_law()
     ensures outputs { late_outputs_are_alike }
     ensures passes { a_late_output_passes }
     ensures once { outputs_have_a_key_once }
+{}
+
+/// Outputs that were written of two parts of what a job takes are, side by side, outputs of both; and of inputs that are apart each part is,
+/// and passes the rules of the table where both do.
+pub fn beside_law()
+    ensures alike { alike_beside }
+    ensures turned { alike_in_turn }
+    ensures sound { sound_beside }
+    ensures differ { numbers_differ_beside }
+    ensures pass { passing_beside }
+    ensures apart { each_part_is_apart }
+    ensures parts { each_part_passes }
 {}
