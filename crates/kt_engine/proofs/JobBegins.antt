@@ -33,7 +33,7 @@ last_is old new last h at =
     cc
 
 module _ {L D C : Type 0} (view : EngineView L D C) (tablet : View C) (upkeep : UpkeepsView) (h : HasFrozen view.tablet tablet) where
-  takes_frozen : (job : JobView) → AreShelved (suc view.tablet.frozen) (2 ^ 64) view.tablet.names → job.taken ≡ [] → job.last_mem ≡ h.number → TakesFrozen (record view { tablet = tablet; upkeep = upkeep }) job
+  pub takes_frozen : (job : JobView) → AreShelved (suc view.tablet.frozen) (2 ^ 64) view.tablet.names → job.taken ≡ [] → job.last_mem ≡ h.number → TakesFrozen (record view { tablet = tablet; upkeep = upkeep }) job
   takes_frozen job shelved none last =
       subst (λ (t : View C). TakesFrozen (record view { tablet = t; upkeep = upkeep }) job) (sym h.is) (record {
         none = none;

@@ -187,6 +187,15 @@ module _ {L D C : Type 0} (log_tells : Bool) (log_seen : L → Files) (log_now :
       → BothOn (record view { upkeep = upkeep })
   abandoned_both n w changed none same is = free_both n (job_abandoned w (upkeep_at n view.upkeep.passes)) changed none same is (λ j e. absurd (let no : None ≡ Some j = e in cc)) (λ j e at. absurd (let no : None ≡ Some j = e in cc))
 
+  -- one freezes the MemRowSet that takes inserts, and that counts as a job more
+  pub refrozen_both : (tablet : View C) (n : ℕ) (u : UpkeepView) (h : HasFrozen view.tablet tablet) → h.number + 1 < 2 ^ 64 → HasUpkeep n u view.upkeep upkeep → upkeep.begun ≡ suc view.upkeep.begun → upkeep.publishing ≡ None → view.upkeep.begun < 2 ^ 24 → view.upkeep.publishing ≡ None
+      → (is : BothOn view) → ((j : JobView) → u.job ≡ Some j → JobOn (view.records ++ is.1.run) j) → ((j : JobView) → u.job ≡ Some j → is_at_outside j.stage ≡ false) → BothOn (record view { tablet = tablet; upkeep = upkeep })
+  refrozen_both tablet n u h fits has counted still few none is on other = (
+    frozen_keeps log_tells log_seen log_now log_leaves log_faults tells seen faults view tablet upkeep h fits (λ zero_. let no : suc view.upkeep.begun ≡ 0 = sym counted ∙ zero_ in cc) is.0,
+    frozen_stored log_tells log_seen log_now log_leaves log_faults tells seen faults view tablet upkeep h fits is.1 none still counted few (jobs_kept (view.records ++ is.1.run) n u view.upkeep upkeep has on is.1.jobs)
+        (outside_beside view is.1.run is.1.outside upkeep n u has still (λ zero_. absurd (let no : suc view.upkeep.begun ≡ 0 = sym counted ∙ zero_ in cc)) other),
+  )
+
   -- a job has begun
   pub begun_both : (tablet : View C) (n : ℕ) (w : Want) (job : JobView) (h : HasFrozen view.tablet tablet) → h.number + 1 < 2 ^ 64 → HasUpkeep n (asked w job (upkeep_at n view.upkeep.passes)) view.upkeep upkeep
       → (upkeep.begun ≡ job.number) × (upkeep.publishing ≡ view.upkeep.publishing) → job.number ≡ suc view.upkeep.begun → view.upkeep.begun < 2 ^ 24 → view.upkeep.publishing ≡ None → job.many ≡ view.log.known.count + length (view.log.out ++ view.log.queued)

@@ -94,7 +94,7 @@ rowsets_left_out last next (Mem n ∷ names) xs left = absurd left
 rowsets_left_out last next (Delta r n ∷ names) [] left = refl
 rowsets_left_out last next (Delta r n ∷ names) (x ∷ xs) left = rowsets_left_out last next names xs left.1
 
-mems_taken : {A : Type 0} (last next : ℕ) (frozen others : List Target) (xs ys : List A) → AreUpTo last frozen → AreLeft next others → length frozen ≡ length xs → of_taken (mems last) (frozen ++ others) (xs ++ ys) ≡ xs
+pub mems_taken : {A : Type 0} (last next : ℕ) (frozen others : List Target) (xs ys : List A) → AreUpTo last frozen → AreLeft next others → length frozen ≡ length xs → of_taken (mems last) (frozen ++ others) (xs ++ ys) ≡ xs
 mems_taken last next [] others [] ys up left e = rowsets_left_out last next others ys left
 mems_taken last next [] others (x ∷ xs) ys up left e = absurd (omega arith)
 mems_taken last next (Mem n ∷ frozen) others [] ys up left e = absurd (omega arith)

@@ -1,5 +1,5 @@
 -- What a job that is outside takes of the stores, as events change them.
-use Rattle.std.proofs.Common.{◌≡◌, ℕ, zero, suc, Bool, true, false, cond, List, [], ◌∷◌, map, length, Option, Some, None, refl, sym, ap, ◌∙◌, arith, inl, inr}
+use Rattle.std.proofs.Common.{◌≡◌, ◌<◌, ℕ, zero, suc, Bool, true, false, cond, List, [], ◌∷◌, map, length, Option, Some, None, refl, sym, ap, ◌∙◌, subst, arith, inl, inr}
 use Rattle.std.specs.List.{All}
 use Rattle.std.proofs.lemmas.Bool.{le-leb}
 use Rattle.std.specs.Prelude.{slice_get, is_some}
@@ -14,7 +14,8 @@ use Rattle.kt_history.specs.declared.target.Target.{Target}
 use Rattle.kt_history.specs.declared.target.Target.TheVariants.{Mem, Delta}
 use Rattle.kt_histlaws.specs.Core.{live}
 use Rattle.kt_histlaws.specs.Flights.{AllUnder}
-use Rattle.kt_histlaws.specs.Histories.{hists, first_some, on_nth, nth_option}
+use Rattle.kt_histlaws.specs.Histories.{hists, first_some, on_nth, nth_option, AtMostOne, Alone}
+use Rattle.kt_histlaws.proofs.OneKey.{alone_of_one, alone_of_none, length_map}
 use Rattle.kt_content.specs.MissedChanges.{is_insert}
 use Rattle.kt_content.specs.Flushes.{before}
 use Rattle.kt_content.specs.RunEvents.{Numbers, StoresBelow, IsBelow}
@@ -128,6 +129,28 @@ row_there q ts k names name stores behind many at under =
       )
       | inr none ↦ absurd (let first = none.1 in omega (arith, behind, first))
     ]
+
+inside_at : {A : Type 0} (xs : List A) (i : ℕ) (x : A) → slice_get xs i ≡ Some x → i < length xs
+inside_at [] i x at = absurd (let no : None ≡ Some x = at in cc)
+inside_at (y ∷ xs) zero x at = omega arith
+inside_at (y ∷ xs) (suc i) x at = let low = inside_at xs i x at in omega arith
+
+-- and no other store has it there
+pub row_alone : (q : List ℕ) (ts : ℕ) (names : List Target) (name : Target) (stores : List Store) → length names ≡ length stores → slice_get names (place_of q stores) ≡ Some name → AllUnder ts (hists q stores) → AtMostOne (map (row_of ts) (hists q stores))
+    → (place_of q stores < length stores) × Alone (place_of q stores) (map (row_of ts) (hists q stores))
+row_alone q ts names name stores many at under one =
+    let hs = hists q stores in
+    let h = there_is names (hist_in q) stores (place_of q stores) name many at in
+    let inside = inside_at names (place_of q stores) name at in (
+      omega arith,
+      elim (taken_live q ts stores h.0 under h.1) [
+        | inl lives ↦ alone_of_one (place_of q stores) (map (row_of ts) hs) one (ap is_some (option_at (row_of ts) (place_of q stores) hs h.0 h.1) ∙ lives)
+        | inr none ↦ subst (λ (i : ℕ). Alone i (map (row_of ts) hs)) (sym none.1) (alone_of_none zero (map (row_of ts) hs) (subst (λ (i : ℕ). i < length (map (row_of ts) hs)) none.1 (long (inside_at hs (place_of q stores) h.0 h.1))) none.0)
+      ],
+    )
+  where
+    long : place_of q stores < length (hists q stores) → place_of q stores < length (map (row_of ts) (hists q stores))
+    long lt = subst (λ (n : ℕ). place_of q stores < n) (sym (length_map (row_of ts) (hists q stores))) lt
 
 upd_plain : (cells : Row) (c : Change) → Some (Upd cells) ≡ Some c → is_insert c ≡ false
 upd_plain cells c e = let same : Upd cells ≡ c = cc in sym (ap is_insert same)

@@ -26,6 +26,7 @@ pub mod Empty
 pub mod Others
 pub mod Steps
 pub mod JobCalls
+pub mod Refrozen
 pub mod Rising
 pub mod Frozen
 pub mod Shelved
@@ -50,6 +51,7 @@ pub mod JobInputs
 pub mod JobOut
 pub mod Finished
 pub mod JobBoth
+pub mod GoesOut
 pub mod JobBegins
 pub mod ToDo
 pub mod Placed

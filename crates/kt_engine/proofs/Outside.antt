@@ -1,10 +1,11 @@
 -- A job that is outside the lock finds its disk rowsets with what it took, and later changes behind, after each event.
-use Rattle.std.proofs.Common.{◌≡◌, ◌<◌, ◌≤◌, ◌+◌, ℕ, zero, suc, Bool, true, false, cond, List, [], ◌∷◌, ◌++◌, length, map, take, drop, Option, Some, None, refl, sym, ap, ◌∙◌, subst, arith}
+use Rattle.std.proofs.Common.{◌≡◌, ◌<◌, ◌≤◌, ◌+◌, ◌≢◌, ℕ, zero, suc, Bool, true, false, cond, List, [], ◌∷◌, ◌++◌, length, map, take, drop, Option, Some, None, refl, sym, ap, ◌∙◌, subst, arith}
 use Rattle.std.specs.Prelude.{◌==◌, not, is_some, slice_get}
 use Rattle.std.specs.List.{AllByRecursion, remove}
 use Rattle.std.specs.FinMap.Entries.{put}
 use Rattle.std.specs.Ordering.{eq_by_cmp}
 use Rattle.std.proofs.lemmas.Simd.{map-map}
+use Rattle.std.proofs.lemmas.Bool.{lt-leb}
 use Rattle.std.proofs.lemmas.List.Elements.{All-append}
 use Rattle.kt_history.specs.declared.change.Change.{Change}
 use Rattle.kt_history.specs.declared.change.Outcome.{Outcome}
@@ -16,13 +17,15 @@ use Rattle.kt_history.specs.declared.target.Target.TheVariants.{Mem}
 use Rattle.kt_history.specs.History.{Past}
 use Rattle.kt_history.specs.Machine.{Turn, Workload}
 use Rattle.kt_history.specs.Rows.{Row, key_cmp}
-use Rattle.kt_history.specs.Stores.{Store, hist_in, last_row, push}
+use Rattle.kt_history.specs.Operations.{effect}
+use Rattle.kt_history.specs.Stores.{Store, hist_in, last_row, row_of, push}
 use Rattle.kt_records.specs.declared.entry.Entry.{Entry}
 use Rattle.kt_records.specs.declared.entry.Entry.TheVariants.{Replicate, Commit}
 use Rattle.kt_records.specs.declared.entry.CommitRow.{CommitRow}
 use Rattle.kt_histlaws.specs.Events.{begun, ended, advance, pushed_if}
 use Rattle.kt_histlaws.specs.Flights.{AllUnder}
-use Rattle.kt_histlaws.specs.Histories.{hists, on_nth, nth_option, pushed}
+use Rattle.kt_histlaws.specs.Core.{live}
+use Rattle.kt_histlaws.specs.Histories.{hists, on_nth, nth_option, pushed, Alone}
 use Rattle.kt_histlaws.specs.Pending.{Aloft}
 use Rattle.kt_histlaws.proofs.Pending.{hists-pushed_same, hists-pushed_other, same_key}
 use Rattle.kt_content.specs.Flushes.{before}
@@ -30,15 +33,18 @@ use Rattle.kt_content.specs.MissedChanges.{is_insert}
 use Rattle.kt_content.specs.RunEvents.{Numbers, IsBelow, TargetsBelow, RowsBelow}
 use Rattle.kt_pool.specs.Contents.{Contents}
 use Rattle.kt_super.specs.declared.meta.Meta.{Meta}
-use Rattle.kt_merge.specs.Merge.{hists_of}
+use Rattle.kt_pick.specs.declared.rules.Want.{Want}
+use Rattle.kt_pick.specs.declared.rules.Want.TheVariants as want
+use Rattle.kt_joblaws.specs.Apart.{AreApart}
 use Rattle.kt_joblaws.specs.Late.{AllHaveLater}
 use Rattle.kt_joblaws.proofs.Late.{comes_later}
-use Rattle.kt_stores.specs.Takes.{Takes, rowsets as disks, takes, of_taken}
+use Rattle.kt_joblaws.proofs.Pushed.{vacant_apart, pushed_apart}
+use Rattle.kt_stores.specs.Takes.{Takes, mems, rowsets as disks, takes, of_taken}
 use Rattle.kt_tablet.specs.Rows.{commit_row}
 use Rattle.kt_tablet.specs.Views.{View, Opens}
-use Rattle.kt_engine.specs.Jobs.{JobView, UpkeepsView}
+use Rattle.kt_engine.specs.Jobs.{JobView, UpkeepsView, takes_by, takes_of}
 use Rattle.kt_engine.specs.Near.{first_number}
-use Rattle.kt_engine.specs.Outside.{IsOutside}
+use Rattle.kt_engine.specs.Outside.{IsOutside, TakesStill, hists_read}
 use Rattle.kt_engine.specs.Over.{AreLeft}
 use Rattle.kt_engine.proofs.JobBegins.{drop_first}
 use Rattle.kt_engine.proofs.LaterRows.{among, taken_changed, taken_has, left_changed}
@@ -119,6 +125,10 @@ under_behind : (ts : ℕ) (q : List ℕ) (stores : List Store) → AllUnder ts (
 under_behind ts q [] all = tt
 under_behind ts q (s ∷ stores) all = all.1
 
+as_many_hists : (q : List ℕ) (stores : List Store) → length (hists q stores) ≡ length stores
+as_many_hists q [] = refl
+as_many_hists q (s ∷ stores) = ap (λ (n : ℕ). suc n) (as_many_hists q stores)
+
 -- some of those that lie under a time do
 under_taken : (ts : ℕ) (q : List ℕ) (t : Takes) (names : List Target) (stores : List Store) → AllUnder ts (hists q stores) → AllUnder ts (hists q (of_taken t names stores))
 under_taken ts q t [] stores all = tt
@@ -130,14 +140,50 @@ under_taken ts q t (name ∷ names) (s ∷ stores) all = by (takes t name) (unde
     by false rest = rest
 
 -- the MemRowSet in front is not taken, nor was the one that it comes before
-taken_first : (numbers : List ℕ) (n : ℕ) (names others : List Target) (stores : List Store) → names ≡ Mem n ∷ others → length names ≡ length stores → of_taken (disks numbers) names stores ≡ of_taken (disks numbers) (drop 1 names) (drop 1 stores)
-taken_first numbers n names others [] was many = absurd (let no : suc (length others) ≡ 0 = sym (ap length was) ∙ many in cc)
-taken_first numbers n names others (x ∷ xs) was many = subst (λ (ns : List Target). of_taken (disks numbers) ns (x ∷ xs) ≡ of_taken (disks numbers) (drop 1 ns) xs) (sym was) refl
+taken_first : {A : Type 0} (t : Takes) (n : ℕ) (names others : List Target) (xs : List A) → takes t (Mem n) ≡ false → names ≡ Mem n ∷ others → length names ≡ length xs → of_taken t names xs ≡ of_taken t (drop 1 names) (drop 1 xs)
+taken_first t n names others [] stays was many = absurd (let no : suc (length others) ≡ 0 = sym (ap length was) ∙ many in cc)
+taken_first t n names others (x ∷ xs) stays was many =
+    subst (λ (ns : List Target). of_taken t ns (x ∷ xs) ≡ of_taken t (drop 1 ns) xs) (sym was) (ap (λ (b : Bool). cond b (x ∷ of_taken t others xs) (of_taken t others xs)) stays)
+
+-- what a compaction takes, and a flush
+pub takes_disks : (taken : List ℕ) (last : ℕ) → taken ≢ [] → takes_by taken last ≡ disks taken
+takes_disks [] last some = absurd (some refl)
+takes_disks (r ∷ taken) last some = refl
+
+pub takes_mems : (taken : List ℕ) (last : ℕ) → taken ≡ [] → takes_by taken last ≡ mems last
+takes_mems taken last none = ap (λ (l : List ℕ). takes_by l last) none
+
+-- the one that takes inserts stays
+first_stays : (job : JobView) (n : ℕ) (others names : List Target) → names ≡ Mem n ∷ others → (w : Want) → TakesStill names job w → takes (takes_of job) (Mem n) ≡ false
+first_stays job n others names was want.Flush t =
+    let low = t.first in
+    let at : first_number names ≡ n = ap first_number was in
+    let lower : job.last_mem < n = omega (arith, low, at) in
+    ap (λ (x : Takes). takes x (Mem n)) (takes_mems job.taken job.last_mem t.none) ∙ lt-leb n job.last_mem lower
+first_stays job n others names was (want.Compact taken) t = ap (λ (x : Takes). takes x (Mem n)) (takes_disks job.taken job.last_mem t.1.some)
+first_stays job n others names was (want.FlushDeltas r) t = absurd t
+first_stays job n others names was (want.Minor r) t = absurd t
+first_stays job n others names was (want.Major r) t = absurd t
+
+-- it takes what it took where another comes in front
+still_frozen : (job : JobView) (n : ℕ) (others names : List Target) → names ≡ Mem n ∷ others → (w : Want) → TakesStill names job w → TakesStill (Mem (n + 1) ∷ names) job w
+still_frozen job n others names was want.Flush t =
+    let low = t.first in
+    let at : first_number names ≡ n = ap first_number was in
+    let stays : takes (mems job.last_mem) (Mem n) ≡ false = lt-leb n job.last_mem (omega (arith, low, at)) in
+    record { none = t.none; first = omega (arith, low, at); many = ap length (taken_first (mems job.last_mem) n names others names stays was refl) ∙ t.many }
+still_frozen job n others names was (want.Compact taken) t = (t.0, record { some = t.1.some; there = t.1.there })
+still_frozen job n others names was (want.FlushDeltas r) t = absurd t
+still_frozen job n others names was (want.Minor r) t = absurd t
+still_frozen job n others names was (want.Major r) t = absurd t
 
 -- ---- events
 
--- An operation changes these stores: all that they have of its key lies below it, and behind the first store it is a change of a row that is there
-pub record IsChanged (old new : List Store) (i ts : ℕ) (op : RowOp) (x : Option Change) : Type 0 where
+-- An operation changes these stores: all that they have of its key lies below it, no other than its store may have the row, and behind the first store it is a change of a row that is there
+pub record IsChanged (fill : Row) (old new : List Store) (i ts : ℕ) (op : RowOp) (x : Option Change) : Type 0 where
+  pub inside : i < length old
+  pub alone : Alone i (map (row_of ts) (hists op.key old))
+  pub gives : x ≡ (effect fill op.kind op.cells (live old op.key ts)).0
   pub stores_are : new ≡ pushed_if i op.key ts x old
   pub under : AllUnder ts (hists op.key old)
   pub fit : (k : ℕ) (c : Change) → i ≡ suc k → x ≡ Some c → (is_insert c ≡ false) × (is_some (nth_option i (map last_row (hists op.key old))) ≡ true)
@@ -156,9 +202,7 @@ module _ {C : Type 0} (v : View C) (meta : Meta) (lent : Option Meta) (upkeep : 
     read = is.read;
     free = is.free;
     begun = is.begun;
-    want_is = is.want_is;
-    some = is.some;
-    there = is.there;
+    takes = is.takes;
     left = is.left;
     below = is.below;
     as_many = is.as_many;
@@ -168,8 +212,10 @@ module _ {C : Type 0} (v : View C) (meta : Meta) (lent : Option Meta) (upkeep : 
     flies = is.flies;
     mark = (is.mark.0, (let low = is.mark.1 in omega arith));
     low = is.low;
+    front = is.front;
     later = is.later;
     apart = is.apart;
+    whole = is.whole;
     upto = is.upto;
   }
 
@@ -180,9 +226,7 @@ module _ {C : Type 0} (v : View C) (meta : Meta) (lent : Option Meta) (upkeep : 
     read = is.read;
     free = (free, is.free.1);
     begun = λ none. is.begun (counted none);
-    want_is = is.want_is;
-    some = is.some;
-    there = is.there;
+    takes = is.takes;
     left = is.left;
     below = is.below;
     as_many = is.as_many;
@@ -192,8 +236,10 @@ module _ {C : Type 0} (v : View C) (meta : Meta) (lent : Option Meta) (upkeep : 
     flies = is.flies;
     mark = is.mark;
     low = is.low;
+    front = is.front;
     later = is.later;
     apart = is.apart;
+    whole = is.whole;
     upto = is.upto;
   }
 
@@ -204,9 +250,7 @@ module _ {C : Type 0} (v : View C) (meta : Meta) (lent : Option Meta) (upkeep : 
     read = is.read;
     free = is.free;
     begun = is.begun;
-    want_is = is.want_is;
-    some = is.some;
-    there = is.there;
+    takes = is.takes;
     left = is.left;
     below = is.below;
     as_many = is.as_many;
@@ -216,8 +260,10 @@ module _ {C : Type 0} (v : View C) (meta : Meta) (lent : Option Meta) (upkeep : 
     flies = is.flies;
     mark = is.mark;
     low = is.low;
+    front = is.front;
     later = is.later;
     apart = is.apart;
+    whole = is.whole;
     upto = is.upto;
   }
 
@@ -229,9 +275,7 @@ module _ {C : Type 0} (v : View C) (meta : Meta) (lent : Option Meta) (upkeep : 
     read = is.read;
     free = is.free;
     begun = is.begun;
-    want_is = is.want_is;
-    some = is.some;
-    there = is.there;
+    takes = is.takes;
     left = is.left;
     below = is.below;
     as_many = is.as_many;
@@ -243,8 +287,10 @@ module _ {C : Type 0} (v : View C) (meta : Meta) (lent : Option Meta) (upkeep : 
         All-append Above v.core.aloft (w ∷ []) is.flies (all_cons Above w [] (let low = is.since in omega arith) (all_none Above));
     mark = is.mark;
     low = is.low;
+    front = is.front;
     later = is.later;
     apart = is.apart;
+    whole = is.whole;
     upto = is.upto;
   }
 
@@ -256,9 +302,7 @@ module _ {C : Type 0} (v : View C) (meta : Meta) (lent : Option Meta) (upkeep : 
     read = is.read;
     free = is.free;
     begun = is.begun;
-    want_is = is.want_is;
-    some = is.some;
-    there = is.there;
+    takes = is.takes;
     left = is.left;
     below = is.below;
     as_many = is.as_many;
@@ -268,8 +312,10 @@ module _ {C : Type 0} (v : View C) (meta : Meta) (lent : Option Meta) (upkeep : 
     flies = all_passing Above Above (λ w. not (w.s == s)) v.core.aloft (λ w passes low. low) is.flies;
     mark = is.mark;
     low = is.low;
+    front = is.front;
     later = is.later;
     apart = is.apart;
+    whole = is.whole;
     upto = is.upto;
   }
 
@@ -283,9 +329,7 @@ module _ {C : Type 0} (v : View C) (meta : Meta) (lent : Option Meta) (upkeep : 
         read = is.read;
         free = is.free;
         begun = is.begun;
-        want_is = is.want_is;
-        some = is.some;
-        there = is.there;
+        takes = still_frozen job n others v.names was job.want is.takes;
         left = subst (λ (k : ℕ). AreLeft job.first_rowset (drop k v.names)) (next_is v.frozen) (subst (AreLeft job.first_rowset) (sym (drop_first v.frozen v.names)) is.left);
         below = is.below;
         as_many = ap (λ (k : ℕ). suc k) is.as_many;
@@ -295,17 +339,19 @@ module _ {C : Type 0} (v : View C) (meta : Meta) (lent : Option Meta) (upkeep : 
         flies = is.flies;
         mark = is.mark;
         low = is.low;
-        later = λ first opens q. subst (λ (ss : List Store). AllHaveLater job.bound (hists_of q is.inputs) (hists q ss)) (sym (taken_first job.taken n v.names others v.core.stores was is.as_many)) (is.later first opens q);
+        front = is.front;
+        later = λ first opens q. subst (λ (ss : List Store). AllHaveLater job.bound (hists_read job.want is.inputs q) (hists q ss)) (sym (taken_first (takes_of job) n v.names others v.core.stores (first_stays job n others v.names was job.want is.takes) was is.as_many)) (is.later first opens q);
         apart = is.apart;
+        whole = λ first opens q. vacant_apart job.mark (hists q v.core.stores) (is.whole first opens q);
         upto = is.upto;
       }
 
   -- a row changes that is there, in a store behind the first: what is taken has the change behind, if it is one of them
   later_changed : (first : Past) → Opens v.opening v.mark v.core.opened first → (i ts : ℕ) (q : List ℕ) (c : Change) (name : Target) → slice_get v.names (suc i) ≡ Some name → is_insert c ≡ false → job.bound < ts → AllUnder ts (hists q v.core.stores)
       → is_some (nth_option (suc i) (map last_row (hists q v.core.stores))) ≡ true → (k : List ℕ)
-      → AllHaveLater job.bound (hists_of k is.inputs) (hists k (of_taken (disks job.taken) (drop 1 v.names) (drop 1 (pushed (suc i) q ts c v.core.stores))))
+      → AllHaveLater job.bound (hists_read job.want is.inputs k) (hists k (of_taken (takes_of job) (drop 1 v.names) (drop 1 (pushed (suc i) q ts c v.core.stores))))
   later_changed first opens i ts q c name at change above under live k =
-      subst (λ (ss : List Store). AllHaveLater job.bound (hists_of k is.inputs) (hists k (of_taken (disks job.taken) names ss))) (sym (behind_changed i f v.core.stores)) (by (takes (disks job.taken) name) refl)
+      subst (λ (ss : List Store). AllHaveLater job.bound (hists_read job.want is.inputs k) (hists k (of_taken (takes_of job) names ss))) (sym (behind_changed i f v.core.stores)) (by (takes (takes_of job) name) refl)
     where
       names : List Target
       names = drop 1 v.names
@@ -320,33 +366,33 @@ module _ {C : Type 0} (v : View C) (meta : Meta) (lent : Option Meta) (upkeep : 
       there = behind_at i v.names ∙ at
 
       place : ℕ
-      place = among (disks job.taken) i names
+      place = among (takes_of job) i names
 
       taken : List Store
-      taken = of_taken (disks job.taken) names stores
+      taken = of_taken (takes_of job) names stores
 
       last : Store → Option Row
       last s = last_row (hist_in q s)
 
       -- the row is there, in the store as it stands among those that are taken
-      has : takes (disks job.taken) name ≡ true → is_some (nth_option place (map last_row (hists q taken))) ≡ true
+      has : takes (takes_of job) name ≡ true → is_some (nth_option place (map last_row (hists q taken))) ≡ true
       has e = ap (λ l. is_some (nth_option place l)) (map-map last_row (hist_in q) taken)
-          ∙ ap is_some (taken_has (disks job.taken) last i name names stores there e ∙ behind_option last i v.core.stores ∙ ap (nth_option (suc i)) (sym (map-map last_row (hist_in q) v.core.stores))) ∙ live
+          ∙ ap is_some (taken_has (takes_of job) last i name names stores there e ∙ behind_option last i v.core.stores ∙ ap (nth_option (suc i)) (sym (map-map last_row (hist_in q) v.core.stores))) ∙ live
 
       -- of the key itself, and of another
-      changed : takes (disks job.taken) name ≡ true → (b : Bool) → eq_by_cmp key_cmp k q ≡ b → AllHaveLater job.bound (hists_of k is.inputs) (hists k (pushed place q ts c taken))
-      changed e true same = subst (λ (x : List ℕ). AllHaveLater job.bound (hists_of x is.inputs) (hists x (pushed place q ts c taken))) (sym (same_key k q same))
-          (subst (AllHaveLater job.bound (hists_of q is.inputs)) (sym (hists-pushed_same place q ts c taken))
-          (comes_later job.bound ts place c (hists_of q is.inputs) (hists q taken) above (under_taken ts q (disks job.taken) names stores (under_behind ts q v.core.stores under)) change (has e) (is.later first opens q)))
-      changed e false other = subst (AllHaveLater job.bound (hists_of k is.inputs)) (sym (hists-pushed_other place k q ts c taken other)) (is.later first opens k)
+      changed : takes (takes_of job) name ≡ true → (b : Bool) → eq_by_cmp key_cmp k q ≡ b → AllHaveLater job.bound (hists_read job.want is.inputs k) (hists k (pushed place q ts c taken))
+      changed e true same = subst (λ (x : List ℕ). AllHaveLater job.bound (hists_read job.want is.inputs x) (hists x (pushed place q ts c taken))) (sym (same_key k q same))
+          (subst (AllHaveLater job.bound (hists_read job.want is.inputs q)) (sym (hists-pushed_same place q ts c taken))
+          (comes_later job.bound ts place c (hists_read job.want is.inputs q) (hists q taken) above (under_taken ts q (takes_of job) names stores (under_behind ts q v.core.stores under)) change (has e) (is.later first opens q)))
+      changed e false other = subst (AllHaveLater job.bound (hists_read job.want is.inputs k)) (sym (hists-pushed_other place k q ts c taken other)) (is.later first opens k)
 
-      by : (b : Bool) → takes (disks job.taken) name ≡ b → AllHaveLater job.bound (hists_of k is.inputs) (hists k (of_taken (disks job.taken) names (on_nth i f stores)))
-      by true e = subst (λ (ss : List Store). AllHaveLater job.bound (hists_of k is.inputs) (hists k ss)) (sym (taken_changed (disks job.taken) f i name names stores there e)) (changed e (eq_by_cmp key_cmp k q) refl)
-      by false e = subst (λ (ss : List Store). AllHaveLater job.bound (hists_of k is.inputs) (hists k ss)) (sym (left_changed (disks job.taken) f i name names stores there e)) (is.later first opens k)
+      by : (b : Bool) → takes (takes_of job) name ≡ b → AllHaveLater job.bound (hists_read job.want is.inputs k) (hists k (of_taken (takes_of job) names (on_nth i f stores)))
+      by true e = subst (λ (ss : List Store). AllHaveLater job.bound (hists_read job.want is.inputs k) (hists k ss)) (sym (taken_changed (takes_of job) f i name names stores there e)) (changed e (eq_by_cmp key_cmp k q) refl)
+      by false e = subst (λ (ss : List Store). AllHaveLater job.bound (hists_read job.want is.inputs k) (hists k ss)) (sym (left_changed (takes_of job) f i name names stores there e)) (is.later first opens k)
 
   -- a row is applied
   pub outside_applied : (j i ts : ℕ) (op : RowOp) (x : Option Change) (name : Target) (o : Outcome) (stores : List Store) (notes : List (List CommitRow)) (pool : Contents)
-      → length stores ≡ length v.core.stores → ((first : Past) → Opens v.opening v.mark v.core.opened first → IsChanged v.core.stores stores i ts op x)
+      → length stores ≡ length v.core.stores → ((first : Past) → Opens v.opening v.mark v.core.opened first → IsChanged v.core.work.fill v.core.stores stores i ts op x)
       → notes ≡ on_nth j (λ rows. rows ++ commit_row name o ∷ []) v.notes → slice_get v.names i ≡ Some name → IsBelow own name → job.bound < ts
       → IsOutside (record v { core = record v.core { aloft = on_nth j advance v.core.aloft; stores = stores }; notes = notes; pool = pool }) meta lent upkeep (records ++ run) job
   outside_applied j i ts op x name o stores notes pool as_long told notes_are at low above = record {
@@ -354,9 +400,7 @@ module _ {C : Type 0} (v : View C) (meta : Meta) (lent : Option Meta) (upkeep : 
     read = is.read;
     free = is.free;
     begun = is.begun;
-    want_is = is.want_is;
-    some = is.some;
-    there = is.there;
+    takes = is.takes;
     left = is.left;
     below = is.below;
     as_many = is.as_many ∙ sym as_long;
@@ -366,14 +410,33 @@ module _ {C : Type 0} (v : View C) (meta : Meta) (lent : Option Meta) (upkeep : 
     flies = advanced_all Above j v.core.aloft (λ w h. h) is.flies;
     mark = is.mark;
     low = is.low;
-    later = λ first opens k. subst (λ (ss : List Store). AllHaveLater job.bound (hists_of k is.inputs) (hists k (of_taken (disks job.taken) (drop 1 v.names) (drop 1 ss)))) (sym (told first opens).stores_are) (by first opens i x refl refl k);
+    front = is.front;
+    later = λ first opens k. subst (λ (ss : List Store). AllHaveLater job.bound (hists_read job.want is.inputs k) (hists k (of_taken (takes_of job) (drop 1 v.names) (drop 1 ss)))) (sym (told first opens).stores_are) (by first opens i x refl refl k);
     apart = is.apart;
+    whole = λ first opens k. subst (λ (ss : List Store). AreApart job.mark (hists k ss)) (sym (told first opens).stores_are) (still_apart first opens x refl k);
     upto = is.upto;
   }
     where
-      by : (first : Past) → Opens v.opening v.mark v.core.opened first → (n : ℕ) (y : Option Change) → i ≡ n → x ≡ y → (k : List ℕ) → AllHaveLater job.bound (hists_of k is.inputs) (hists k (of_taken (disks job.taken) (drop 1 v.names) (drop 1 (pushed_if n op.key ts y v.core.stores))))
+      -- all are apart
+      still_apart : (first : Past) → Opens v.opening v.mark v.core.opened first → (y : Option Change) → x ≡ y → (k : List ℕ) → AreApart job.mark (hists k (pushed_if i op.key ts y v.core.stores))
+      still_apart first opens None its k = is.whole first opens k
+      still_apart first opens (Some c) its k = of_key (eq_by_cmp key_cmp k op.key) refl
+        where
+          changes : IsChanged v.core.work.fill v.core.stores stores i ts op x
+          changes = told first opens
+
+          at_key : AreApart job.mark (hists op.key (pushed i op.key ts c v.core.stores))
+          at_key = subst (AreApart job.mark) (sym (hists-pushed_same i op.key ts c v.core.stores))
+              (pushed_apart job.mark ts i v.core.work.fill op.cells op.kind c (hists op.key v.core.stores) (is.whole first opens op.key) (let low = is.mark.0 in omega arith)
+              (subst (λ (n : ℕ). i < n) (sym (as_many_hists op.key v.core.stores)) changes.inside) changes.under changes.alone (sym changes.gives ∙ its))
+
+          of_key : (b : Bool) → eq_by_cmp key_cmp k op.key ≡ b → AreApart job.mark (hists k (pushed i op.key ts c v.core.stores))
+          of_key true same = subst (λ (q : List ℕ). AreApart job.mark (hists q (pushed i op.key ts c v.core.stores))) (sym (same_key k op.key same)) at_key
+          of_key false other = subst (AreApart job.mark) (sym (hists-pushed_other i k op.key ts c v.core.stores other)) (is.whole first opens k)
+
+      by : (first : Past) → Opens v.opening v.mark v.core.opened first → (n : ℕ) (y : Option Change) → i ≡ n → x ≡ y → (k : List ℕ) → AllHaveLater job.bound (hists_read job.want is.inputs k) (hists k (of_taken (takes_of job) (drop 1 v.names) (drop 1 (pushed_if n op.key ts y v.core.stores))))
       by first opens n None here is_none k = is.later first opens k
-      by first opens zero (Some c) here its k = subst (λ (ss : List Store). AllHaveLater job.bound (hists_of k is.inputs) (hists k (of_taken (disks job.taken) (drop 1 v.names) ss))) (sym (first_changed (λ s. put key_cmp op.key (push ts c (hist_in op.key s)) s) v.core.stores)) (is.later first opens k)
+      by first opens zero (Some c) here its k = subst (λ (ss : List Store). AllHaveLater job.bound (hists_read job.want is.inputs k) (hists k (of_taken (takes_of job) (drop 1 v.names) ss))) (sym (first_changed (λ s. put key_cmp op.key (push ts c (hist_in op.key s)) s) v.core.stores)) (is.later first opens k)
       by first opens (suc n) (Some c) here its k =
           let changes = told first opens in
           let own_change = changes.fit n c here its in

@@ -156,8 +156,9 @@ module _ {L D C : Type 0} (log_tells : Bool) (log_seen : L → Files) (tells : B
       subst (λ (n : Option ℕ). KeepsSince rules (core_over (o n) view.tablet.names core) published (names_over (o n) view.tablet.names) view.tablet.notes view.records is.run view.log.known.count) free
       (is.keeps rules first content plan t published files)
 
-  pub passing : TellPassing rules view.tablet.core.c view.tablet.core.a inputs
-  passing q =
+  -- what the MemRowSets have, from a mark on that is not below the superblock's
+  pub passing_from : (a : ℕ) → published.a ≤ a → (q : List ℕ) → AreApart a (hists q (take (suc view.tablet.frozen) view.tablet.core.stores)) → HistPasses rules q (joined_history a (hists q (take (suc view.tablet.frozen) view.tablet.core.stores)))
+  passing_from a low q apart =
       let k = keeps in
       let all : view.records ++ is.run ≡ (view.records ++ k.since) ++ k.rest = ap (λ (l : List Entry). view.records ++ l) k.parts ∙ sym (append_assoc view.records k.since k.rest) in
       let log : IsLog ((view.records ++ k.since) ++ k.rest) = subst IsLog all is.stands.log in
@@ -166,14 +167,17 @@ module _ {L D C : Type 0} (log_tells : Bool) (log_seen : L → Files) (tells : B
       let same : length view.tablet.names ≡ length (hists q view.tablet.core.stores) = named ∙ sym (as_many q view.tablet.core.stores) in
       let group_is : group published memory (by_name view.tablet.names (hists q view.tablet.core.stores)) ≡ hs =
       firsts_taken published (suc view.tablet.frozen) (2 ^ 64) view.tablet.names (hists q view.tablet.core.stores) shelved k.named.each same ∙ first_hists q (suc view.tablet.frozen) view.tablet.core.stores in
-      subst (λ (l : List Hist). HistPasses rules q (joined_history view.tablet.core.a l)) (sym (tell_all readings view.tablet inputs reads grown sound first content.opens q))
-      (memory_passes rules core.work.fill published (view.records ++ k.since) k.rest _ (resident core view.tablet.names view.tablet.notes k.keeps.numbers) q hs view.tablet.core.a content.closed log k.keeps.stands
-      (each_told ((view.records ++ k.since) ++ k.rest) [] ((view.records ++ k.since) ++ k.rest) refl untold) group_is
-      (own_apart readings view.tablet inputs reads grown sound first content.opens q) k.mark)
+      memory_passes rules core.work.fill published (view.records ++ k.since) k.rest _ (resident core view.tablet.names view.tablet.notes k.keeps.numbers) q hs a content.closed log k.keeps.stands
+      (each_told ((view.records ++ k.since) ++ k.rest) [] ((view.records ++ k.since) ++ k.rest) refl untold) group_is apart low
     where
       as_many : (q : List ℕ) (stores : List Store) → length (hists q stores) ≡ length stores
       as_many q [] = refl
       as_many q (s ∷ stores) = ap suc (as_many q stores)
+
+  pub passing : TellPassing rules view.tablet.core.c view.tablet.core.a inputs
+  passing q =
+      subst (λ (l : List Hist). HistPasses rules q (joined_history view.tablet.core.a l)) (sym (tell_all readings view.tablet inputs reads grown sound first content.opens q))
+      (passing_from view.tablet.core.a keeps.mark q (own_apart readings view.tablet inputs reads grown sound first content.opens q))
 
 -- ---- as of the last timestamp, with the mark of a job
 

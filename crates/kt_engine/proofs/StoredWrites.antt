@@ -33,6 +33,7 @@ use Rattle.kt_engine.specs.Engines.{EngineView, IsFound, IsEngine, core_from}
 use Rattle.kt_engine.specs.Near.{first_number}
 use Rattle.kt_engine.specs.Over.{AreLeft, over_at}
 use Rattle.kt_engine.specs.Stored.{IsStored, over, core_at, names_at, numbers_of}
+use Rattle.kt_histlaws.proofs.Applied.{applies}
 use Rattle.kt_engine.proofs.Applied.{noted_here, keys_under, pushed_is}
 use Rattle.kt_engine.proofs.Begun.{begun_log}
 use Rattle.kt_engine.proofs.Commits.{recorded_count, commit_names}
@@ -45,7 +46,7 @@ use Rattle.kt_engine.proofs.Records.{all_parts, count_parts}
 use Rattle.kt_engine.proofs.Stored.{to_plain, of_plain, plain, none_publishes, job_more, begun_since, applied_since, ended_since}
 use Rattle.kt_engine.proofs.JobBegins.{drop_first}
 use Rattle.kt_engine.proofs.Jobs.{low_shelved}
-use Rattle.kt_engine.proofs.LaterRows.{row_there, plain_change, named_low}
+use Rattle.kt_engine.proofs.LaterRows.{row_alone, row_there, plain_change, named_low}
 use Rattle.kt_engine.proofs.Outside.{IsChanged, outside_begun, outside_ended, outside_applied}
 use Rattle.kt_engine.proofs.Rising.{below_more}
 use Rattle.kt_engine.proofs.Waiting.{none_holds, untold_advanced}
@@ -193,12 +194,17 @@ module _ {L D C : Type 0} (log_tells : Bool) (log_seen : L → Files) (log_now :
       its_change = (effect old.tablet.core.work.fill h.op.kind h.op.cells (live old.tablet.core.stores h.op.key h.flight.ts)).0
 
       -- what it changes, for each past that opening found
-      changed : (first : Past) → IsFound old first → IsChanged old.tablet.core.stores new.core.stores (place_of h.op.key old.tablet.core.stores) h.flight.ts h.op its_change
+      changed : (first : Past) → IsFound old first → IsChanged old.tablet.core.work.fill old.tablet.core.stores new.core.stores (place_of h.op.key old.tablet.core.stores) h.flight.ts h.op its_change
       changed first found =
           let st = stands first found in
           let under = keys_under (core_from old first) st h.j h.flight.ts h.op h.next in
           let there = (noted_here old.tablet new (old.records ++ is.run) s at outcome is.stands.flying e.ready.apart h note).there in
+          let above = (applies (core_from old first) st h.j h.flight.ts h.op h.next).above in
+          let alone = row_alone h.op.key h.flight.ts old.tablet.names _ old.tablet.core.stores stored there under ((st.stores.same h.op.key).one_row h.flight.ts (omega arith)) in
           record {
+            inside = alone.0;
+            alone = alone.1;
+            gives = refl;
             stores_are = pushed_is (core_from old first) st h.j h.flight.ts h.op h.next (core_from (record old { tablet = new }) first) (λ low. ap (λ (c : Core). record c { first = first }) (h.stores low));
             under = under;
             fit = λ k c behind is_change.

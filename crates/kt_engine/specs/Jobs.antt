@@ -21,6 +21,7 @@ use Rattle.kt_stores.specs.Takes.{Takes, mems, rowsets}
 use Rattle.kt_tablet.specs.Views.{View}
 use Rattle.kt_tablet.specs.Jobs.{rows_in_first}
 use Rattle.kt_engine.specs.Over.{Over}
+use Rattle.kt_engine.specs.declared.again.MemsNow.{MemsNow}
 use Rattle.kt_engine.specs.declared.upkeep.Stage.{Stage}
 use Rattle.kt_engine.specs.declared.upkeep.Stage.TheVariants as stage
 
@@ -29,7 +30,7 @@ use Rattle.kt_engine.specs.declared.upkeep.Stage.TheVariants as stage
 -- A job: its number, how far it has come, its bound and its mark; the disk rowsets that it takes; the last MemRowSet that a flush froze, or the one that took inserts
 -- as a compaction began; how many records the log had as it began, and the first rowset and file numbers that its turns may use; what was handed out to it; from its swap on its outputs, as a superblock names them and as their files have them, and how many disk
 -- rowsets there is room for beside them; and from then on, as it publishes, the number of its superblock. Of a job on the files of one disk rowset the number of that,
--- the last DeltaMemStore that it reads, the rowset as it was handed out, and as it was written.
+-- the last DeltaMemStore that it reads, the rowset as it was handed out, and as it was written. Of a flush that went outside, how many MemRowSets it takes, and what was handed out as it came back.
 pub record JobView : Type 0 where
   pub number : ℕ
   pub want : Want
@@ -50,6 +51,8 @@ pub record JobView : Type 0 where
   pub dms : ℕ
   pub read : Option RowSetData
   pub returned : Option (List RowSetData)
+  pub frozen : ℕ
+  pub again : Option MemsNow
   pub output : Option RowSetData
 
 -- What a job takes once its superblock is published: disk rowsets, or the frozen MemRowSets where it has none

@@ -1,7 +1,9 @@
 -- What a job takes with it outside the lock, and how it comes back.
-use Rattle.std.specs.Prelude.{◌≡◌, ◌≢◌, ◌≤◌, ℕ, suc, min, Bool, IsTrue, List, [], length, map, Some, None}
+use Rattle.std.specs.Prelude.{◌≡◌, ◌≢◌, ◌≤◌, ◌<◌, ◌^◌, ℕ, suc, min, Bool, IsTrue, List, [], ◌∷◌, ◌++◌, length, map, Some, None}
 use Rattle.std.specs.List.{AllByRecursion}
+use Rattle.kt_history.specs.declared.changes.KeyChange.{KeyChange}
 use Rattle.kt_history.specs.History.{Past}
+use Rattle.kt_history.specs.Stores.{Hist, never}
 use Rattle.kt_histlaws.specs.Flights.{AllUnder}
 use Rattle.kt_histlaws.specs.Histories.{hists}
 use Rattle.kt_rowfiles.specs.Merging.{joined_history}
@@ -10,30 +12,38 @@ use Rattle.kt_diskrowset.specs.declared.data.RowSetData.{RowSetData}
 use Rattle.kt_diskrowset.specs.declared.inputs.Inputs.{Inputs}
 use Rattle.kt_diskrowset.specs.Data.{store_in}
 use Rattle.kt_merge.specs.Late.{HasNoneAbove}
-use Rattle.kt_merge.specs.Merge.{hists_of}
+use Rattle.kt_merge.specs.Changes.{hist_in_changes}
+use Rattle.kt_merge.specs.Merge.{hists_of, hists_upto, rows_and_changes, AreReadable, AreFaultless}
 use Rattle.kt_joblaws.specs.Apart.{AreApart}
 use Rattle.kt_joblaws.specs.Late.{AllHaveLater}
-use Rattle.kt_stores.specs.Takes.{rowsets as disks}
+use Rattle.kt_pick.specs.declared.rules.Want.{Want}
+use Rattle.kt_pick.specs.declared.rules.Want.TheVariants as want
+use Rattle.kt_schema.specs.Columns.{other_columns}
+use Rattle.kt_stores.specs.Takes.{mems, rowsets as disks}
 use Rattle.kt_tablet.specs.Views.{View}
-use Rattle.kt_tablet.specs.Jobs.{taken_stores}
+use Rattle.kt_tablet.specs.Jobs.{taken_stores, HasFrozen}
+use Rattle.kt_engine.specs.declared.again.MemsNow.{MemsNow}
+use Rattle.kt_engine.specs.declared.job.JobInput.{JobInput}
+use Rattle.kt_engine.specs.declared.job.Returned.{Returned}
+use Rattle.kt_engine.specs.declared.job.Returned.TheVariants as returned
+use Rattle.kt_engine.specs.Columns.{shape_of}
 use Rattle.kt_engine.specs.Engines.{EngineView, IsFound, IsContent}
-use Rattle.kt_engine.specs.Jobs.{JobView}
-use Rattle.kt_engine.specs.JobSteps.{TakesInputs, AtNewStage}
+use Rattle.kt_engine.specs.Jobs.{JobView, HasUpkeep, upkeep_at}
+use Rattle.kt_engine.specs.JobSteps.{Reads, TakesInputs, AtNewStage}
 use Rattle.kt_engine.specs.Logged.{PlanPasses}
 use Rattle.kt_engine.specs.Near.{first_number}
-use Rattle.kt_engine.specs.Outside.{FilesAreUpTo, job_back}
+use Rattle.kt_engine.specs.Outside.{FilesAreUpTo, hists_read, job_again, job_back}
 
--- what was handed out to a job is all that its disk rowsets have, as of its bound, while nothing flies
+-- what was handed out to a job is all that it takes has, as of its bound, while nothing flies
 pub record LeavesAs {C : Type 0} (v : View C) (job : JobView) : Type 0 where
   pub inputs : Inputs
   pub read : job.inputs ≡ Some inputs
   pub bound : job.bound ≡ v.core.c
   pub mark : job.mark ≡ min job.bound v.core.a
-  pub no_lists : inputs.mems ≡ []
-  pub stores : map store_in inputs.rowsets ≡ taken_stores (disks job.taken) v
+  pub reads : Reads v job.taken job.bound inputs
   pub files : FilesAreUpTo job.taken v
 
--- A job goes on in this visit, while nothing flies: this is all that its disk rowsets have now. It may publish what it took with it, once its outputs have what came later
+-- A compaction goes on in this visit, while nothing flies: this is all that its disk rowsets have now. It may publish what it took with it, once its outputs have what came later
 pub record HasReturned {L D C : Type 0} (tells : Bool) (n : ℕ) (job : JobView) (list : List RowSetData) (old new : EngineView L D C) : Type 0 where
   pub many : ℕ
   pub at : AtNewStage n (job_back many (first_number old.tablet.names) list job) old new
@@ -50,3 +60,45 @@ pub record HasReturned {L D C : Type 0} (tells : Bool) (n : ℕ) (job : JobView)
   pub mark : (job.mark ≤ job.bound) × (job.mark ≤ new.tablet.core.a)
   pub passes : IsTrue tells → (rules : Rules) (first : Past) → IsContent rules new first → PlanPasses rules new.tablet.core.work
       → (q : List ℕ) → HistPasses rules q (joined_history job.mark (hists q (taken_stores (disks job.taken) new.tablet)))
+
+-- what was read of MemRowSets, as of the last timestamp and from the tablet's mark on
+pub record IsReadOf {C : Type 0} (v : View C) (input : JobInput) : Type 0 where
+  pub bound : input.bound ≡ v.core.c
+  pub mark : input.mark ≡ min input.bound v.core.a
+  pub no_rowsets : input.inputs.rowsets ≡ []
+  pub readable : AreReadable input.inputs
+  pub few : rows_and_changes input.inputs < 2 ^ 31
+
+-- what these lists have of a key
+abbrev pub hists_in : List ℕ → List (List KeyChange) → List Hist
+hists_in q lists = map (hist_in_changes q) lists
+
+-- A flush goes on in this visit, while nothing flies. The MemRowSet that took inserts is frozen, and it takes all that are frozen now. What it took with it has what was read, with later changes behind; and what came to the others
+-- meanwhile was read anew, without fault. It may publish both, once outputs hold them
+pub record HasRefrozen {L D C : Type 0} (tells : Bool) (n : ℕ) (job : JobView) (m : MemsNow) (old new : EngineView L D C) : Type 0 where
+  pub many : ℕ
+  pub frozen : HasFrozen old.tablet new.tablet
+  pub upkeep : HasUpkeep n (record (upkeep_at n old.upkeep.passes) { job = Some (job_again many frozen.number m job) }) old.upkeep new.upkeep
+  pub counted : (new.upkeep.begun ≡ suc old.upkeep.begun) × (new.upkeep.publishing ≡ None)
+  pub beside : new ≡ record old { tablet = new.tablet; upkeep = new.upkeep }
+  pub takes : TakesInputs new (job_again many frozen.number m job)
+  pub as_many : length new.tablet.names ≡ length new.tablet.core.stores
+  pub inputs : Inputs
+  pub read : job.inputs ≡ Some inputs
+  pub since : IsReadOf old.tablet m.since
+  pub columns : m.since.inputs.columns ≡ map shape_of (other_columns old.store.meta.schema)
+  pub mark : (job.mark ≤ job.bound) × (job.mark ≤ new.tablet.core.a)
+  pub front : (first : Past) → IsFound new first → (q : List ℕ) → hists_of q inputs ≡ never ∷ hists_read want.Flush inputs q
+  pub later : (first : Past) → IsFound new first → (q : List ℕ) → AllHaveLater job.bound (hists_read want.Flush inputs q) (hists_in q m.now)
+  pub apart : (first : Past) → IsFound new first → (q : List ℕ) → AreApart job.mark (hists_read want.Flush inputs q) × AllUnder (suc job.bound) (hists_read want.Flush inputs q)
+  pub parts : (first : Past) → IsFound new first → (q : List ℕ) → hists_upto m.since.bound q m.since.inputs ++ hists_in q m.now ≡ hists q (taken_stores (mems frozen.number) new.tablet)
+  pub whole : (first : Past) → IsFound new first → (q : List ℕ) → AreApart new.tablet.core.a (hists q (taken_stores (mems frozen.number) new.tablet))
+  pub faultless : (first : Past) → IsFound new first → AreFaultless (record { mark = m.since.mark; bound = m.since.bound }) m.since.inputs
+  pub passes : IsTrue tells → (rules : Rules) (first : Past) → IsContent rules new first → PlanPasses rules new.tablet.core.work
+      → (q : List ℕ) → HistPasses rules q (joined_history job.mark (hists_in q m.now)) × HistPasses rules q (joined_history m.since.mark (hists_upto m.since.bound q m.since.inputs))
+
+-- what is handed out as a job comes back, by its want
+abbrev pub ReturnsBy : {L D C : Type 0} → Want → Bool → ℕ → JobView → Returned → EngineView L D C → EngineView L D C → Type 0
+ReturnsBy want.Flush tells n job (returned.Mems m) old new = HasRefrozen tells n job m old new
+ReturnsBy (want.Compact taken) tells n job (returned.Rowsets list) old new = HasReturned tells n job list old new
+ReturnsBy _ tells n job _ old new = ⊥

@@ -36,6 +36,8 @@ job_in w j = record {
   dms = j.dms;
   read = kept_in j.read;
   returned = kept_in j.returned;
+  frozen = j.frozen;
+  again = kept_in j.again;
   output = j.output;
 }
 

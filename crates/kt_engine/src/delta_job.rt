@@ -168,6 +168,8 @@ impl<L: Disk, D: Disk + Drop, C: Clock> Engine<L, D, C> {
             dms: 0,
             read: None,
             returned: None,
+            frozen: 0,
+            again: None,
             output: None,
         };
         self.upkeep.begin(number, asked, job)

@@ -4,6 +4,7 @@
 //! that a crash leaves the run's writes up to a time, each acknowledged one among them.
 #![tactic(auto)]
 
+pub mod again;
 pub mod delta_job;
 pub mod engine;
 mod filled;
@@ -26,8 +27,9 @@ mod telling;
 pub mod upkeep;
 pub mod write;
 
+pub use again::MemsNow;
 pub use engine::{Engine, Found, Parts};
-pub use job::{JobInput, JobNo, JobWait, MaintNo};
+pub use job::{JobInput, JobNo, JobWait, MaintNo, Returned};
 pub use kt_pick::{Stats, Want};
 pub use kt_reopen::Superblock;
 pub use kt_tablet::{BeginNo, Copied, LookNo, ReadView, Snap, SnapNo, Stopped};

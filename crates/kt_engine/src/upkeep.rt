@@ -1,5 +1,5 @@
 //! What passes have of maintenance: their asks, their rounds, and their jobs.
-ghost use Rattle.std.specs.Prelude.{◌≡◌, ◌≤◌, ◌<◌, ℕ, false, IsTrue, is_some, map, length, slice_get, Some, None, IfOk, OnOk, OnErr, MatchOption};
+ghost use Rattle.std.specs.Prelude.{◌≡◌, ◌≤◌, ◌<◌, ◌^◌, ℕ, suc, false, IsTrue, is_some, map, length, slice_get, Some, None, IfOk, OnOk, OnErr, MatchOption};
 ghost use Rattle.std.specs.List.{sum_by};
 ghost use Rattle.std.specs.Option.{option_map};
 ghost use Rattle.kt_pick.specs.declared.rules.Want.{Want as WantSpec};
@@ -7,10 +7,11 @@ ghost use Rattle.kt_diskrowset.specs.Rowset.{held_of};
 ghost use Rattle.kt_engine.specs.Jobs.{idle, no_upkeep, upkeep_at, job_of, asked, asked_for_nothing, job_finished, job_abandoned, same_want, without_want, rewritten, JobView, HasUpkeep};
 ghost use Rattle.kt_engine.specs.DeltaJobs.{IsOn};
 ghost use Rattle.kt_engine.specs.JobSteps.{IsMerge, one_job, running, stage_home, publishing_home, shares, names, or_holder, first_holder};
-ghost use Rattle.kt_engine.specs.Outside.{is_outside, any_outside, job_back};
+ghost use Rattle.kt_engine.specs.Outside.{is_outside, any_outside, job_again, job_back, job_out};
 ghost use Rattle.kt_engine.specs.Rounds.{round_of};
 ghost use Rattle.kt_engine.specs.Upkeeps.{upkeep_of, job_in, IsThere};
 
+use crate::again::MemsNow;
 use crate::outputs::JobOutputs;
 use kt_base::{Chore, NoMemory};
 use kt_diskrowset::{Inputs, RowSetData, RowSetList};
@@ -79,6 +80,10 @@ pub struct Job {
     pub read: Option<Snapshot<RowSetData>>,
     /// What its disk rowsets had as it came back from outside the lock, for contracts alone.
     pub returned: Option<Snapshot<RowSetList>>,
+    /// How many MemRowSets a flush takes that went outside.
+    pub frozen: usize,
+    /// What its MemRowSets had as it came back, for contracts alone.
+    pub again: Option<Snapshot<MemsNow>>,
     pub output: Option<RowSetData>,
 }
 
@@ -227,6 +232,17 @@ impl Upkeep {
         }
     }
 
+    // Its job goes outside, of this many frozen MemRowSets.
+    fn go_out(&mut self, frozen: usize)
+        ensures own { (job : JobView) → (upkeep_of self.old).1.job ≡ Some job → (upkeep_of self.new).1 ≡ record (upkeep_of self.old).1 { job = Some (job_out frozen job) } }
+        ensures pass { self.new.pass ≡ self.old.pass }
+    {
+        if let Some(job) = &mut self.job {
+            job.stage = Stage::Outside;
+            job.frozen = frozen;
+        }
+    }
+
     // The superblock of its job is lent.
     fn publish(&mut self, superblock: u64)
         ensures own { (job : JobView) → (upkeep_of self.old).1.job ≡ Some job → (upkeep_of self.new).1 ≡ record (upkeep_of self.old).1 { job = Some (record job { stage = Stage.Publishing; super = superblock }) } }
@@ -261,6 +277,19 @@ impl Upkeep {
             job.many = many;
             job.last_mem = last_mem;
             job.returned = Some(returned);
+        }
+    }
+
+    // Its job is back, a flush, with so many records in the log, and takes the MemRowSets up to this one. They were handed out as they are.
+    fn come_again(&mut self, many: u64, last_mem: u64, again: Snapshot<MemsNow>)
+        ensures own { (job : JobView) → (upkeep_of self.old).1.job ≡ Some job → (upkeep_of self.new).1 ≡ record (upkeep_of self.old).1 { job = Some (job_again many last_mem again.value job) } }
+        ensures pass { self.new.pass ≡ self.old.pass }
+    {
+        if let Some(job) = &mut self.job {
+            job.stage = Stage::Read;
+            job.many = many;
+            job.last_mem = last_mem;
+            job.again = Some(again);
         }
     }
 
@@ -477,6 +506,18 @@ impl Upkeeps {
         self.passes[at].go_on(stage);
     }
 
+    /// It goes outside, of this many frozen MemRowSets.
+    pub fn go_out(&mut self, pass: u32, frozen: usize)
+        requires job { (job : JobView) × (job_of pass self.old ≡ Some job) }
+        ensures own { (job : JobView) → job_of pass self.old ≡ Some job → HasUpkeep pass (record (upkeep_at pass self.old.passes) { job = Some (job_out frozen job) }) self.old self.new }
+        ensures begun { (self.new.begun ≡ self.old.begun) × (self.new.publishing ≡ self.old.publishing) }
+    {
+        let Some(at) = self.place(pass) else {
+            return;
+        };
+        self.passes[at].go_out(frozen);
+    }
+
     /// Its inputs were handed out, with this bound and this mark.
     pub fn read(&mut self, pass: u32, bound: u64, mark: u64, inputs: Snapshot<Inputs>)
         requires job { (job : JobView) × (job_of pass self.old ≡ Some job) }
@@ -499,6 +540,21 @@ impl Upkeeps {
             return;
         };
         self.passes[at].come_back(many, last_mem, returned);
+    }
+
+    /// A flush is back from outside the lock, with so many records in the log, and takes the MemRowSets up to this one. They were handed out as they are. It counts as
+    /// one more job that has begun, since it froze once more.
+    pub fn come_again(&mut self, pass: u32, many: u64, last_mem: u64, again: Snapshot<MemsNow>)
+        requires job { (job : JobView) × (job_of pass self.old ≡ Some job) }
+        requires few { self.old.begun < 2 ^ 24 }
+        ensures own { (job : JobView) → job_of pass self.old ≡ Some job → HasUpkeep pass (record (upkeep_at pass self.old.passes) { job = Some (job_again many last_mem again.value job) }) self.old self.new }
+        ensures begun { (self.new.begun ≡ suc self.old.begun) × (self.new.publishing ≡ self.old.publishing) }
+    {
+        self.begun += 1;
+        let Some(at) = self.place(pass) else {
+            return;
+        };
+        self.passes[at].come_again(many, last_mem, again);
     }
 
     /// Whether a job is outside the lock.

@@ -12,7 +12,7 @@ use Rattle.kt_engine.proofs.engine.Engine.begin_compaction.Goals as goal
 pub invariant_of-self : goal.invariant_of-self
 invariant_of-self g c =
     let old = sym c.self.view_is in
-    let job : Job = record { number = c.counts-begun.result.1 + 1; stage = stage.Begun; bound = 0; mark = 0; taken = c.args.taken; last_mem = c.active_number.result; many = c.count.result; first_rowset = c.next_numbers-first_rowset.result.0; first_file = c.next_numbers-first_rowset.result.1; inputs = None; outputs = c.none.result; superblock = 0; rowset = 0; dms = 0; read = None; returned = None; output = None } in
+    let job : Job = record { number = c.counts-begun.result.1 + 1; stage = stage.Begun; bound = 0; mark = 0; taken = c.args.taken; last_mem = c.active_number.result; many = c.count.result; first_rowset = c.next_numbers-first_rowset.result.0; first_file = c.next_numbers-first_rowset.result.1; inputs = None; outputs = c.none.result; superblock = 0; rowset = 0; dms = 0; read = None; returned = None; frozen = 0; again = None; output = None } in
     let count = c.begin.ensures.begun in
     let numbers = rw c.deref-2.ensures at c.next_numbers-first_rowset.ensures in
     let many : job.many ≡ c.self.inside.log.value.known.count + length (c.self.inside.log.value.out ++ c.self.inside.log.value.queued) =
@@ -27,7 +27,7 @@ invariant_of-self g c =
 pub returns : goal.returns
 returns g c =
     let old = sym c.self.view_is in
-    let job : Job = record { number = c.counts-begun.result.1 + 1; stage = stage.Begun; bound = 0; mark = 0; taken = c.args.taken; last_mem = c.active_number.result; many = c.count.result; first_rowset = c.next_numbers-first_rowset.result.0; first_file = c.next_numbers-first_rowset.result.1; inputs = None; outputs = c.none.result; superblock = 0; rowset = 0; dms = 0; read = None; returned = None; output = None } in
+    let job : Job = record { number = c.counts-begun.result.1 + 1; stage = stage.Begun; bound = 0; mark = 0; taken = c.args.taken; last_mem = c.active_number.result; many = c.count.result; first_rowset = c.next_numbers-first_rowset.result.0; first_file = c.next_numbers-first_rowset.result.1; inputs = None; outputs = c.none.result; superblock = 0; rowset = 0; dms = 0; read = None; returned = None; frozen = 0; again = None; output = None } in
     let count = c.begin.ensures.begun in
     let numbers = rw c.deref-2.ensures at c.next_numbers-first_rowset.ensures in
     let many : job.many ≡ c.self.inside.log.value.known.count + length (c.self.inside.log.value.out ++ c.self.inside.log.value.queued) =

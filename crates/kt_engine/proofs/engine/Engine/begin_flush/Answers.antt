@@ -12,7 +12,7 @@ invariant_of-self-2 g c =
     let old = sym c.self.view_is in
     let is = c.deref_mut.ensures.value in
     let h = rw is at c.in_ok-freeze.ensures.frozen in
-    let job : Job = record { number = c.counts-begun.result.1 + 1; stage = stage.Begun; bound = 0; mark = 0; taken = c.of.result; last_mem = c.last_frozen.result; many = c.count.result; first_rowset = c.next_numbers-first_rowset.result.0; first_file = c.next_numbers-first_rowset.result.1; inputs = None; outputs = c.none.result; superblock = 0; rowset = 0; dms = 0; read = None; returned = None; output = None } in
+    let job : Job = record { number = c.counts-begun.result.1 + 1; stage = stage.Begun; bound = 0; mark = 0; taken = c.of.result; last_mem = c.last_frozen.result; many = c.count.result; first_rowset = c.next_numbers-first_rowset.result.0; first_file = c.next_numbers-first_rowset.result.1; inputs = None; outputs = c.none.result; superblock = 0; rowset = 0; dms = 0; read = None; returned = None; frozen = 0; again = None; output = None } in
     let count = c.begin.ensures.begun in
     let numbers = rw c.deref-2.ensures at c.next_numbers-first_rowset.ensures in
     let many : job.many ≡ c.self.inside.log.value.known.count + length (c.self.inside.log.value.out ++ c.self.inside.log.value.queued) =
@@ -28,7 +28,7 @@ returns-clause-begun g c =
     let old = sym c.self.view_is in
     let is = c.deref_mut.ensures.value in
     let h = rw is at c.in_ok-freeze.ensures.frozen in
-    let job : Job = record { number = c.counts-begun.result.1 + 1; stage = stage.Begun; bound = 0; mark = 0; taken = c.of.result; last_mem = c.last_frozen.result; many = c.count.result; first_rowset = c.next_numbers-first_rowset.result.0; first_file = c.next_numbers-first_rowset.result.1; inputs = None; outputs = c.none.result; superblock = 0; rowset = 0; dms = 0; read = None; returned = None; output = None } in
+    let job : Job = record { number = c.counts-begun.result.1 + 1; stage = stage.Begun; bound = 0; mark = 0; taken = c.of.result; last_mem = c.last_frozen.result; many = c.count.result; first_rowset = c.next_numbers-first_rowset.result.0; first_file = c.next_numbers-first_rowset.result.1; inputs = None; outputs = c.none.result; superblock = 0; rowset = 0; dms = 0; read = None; returned = None; frozen = 0; again = None; output = None } in
     let count = c.begin.ensures.begun in
     let numbers = rw c.deref-2.ensures at c.next_numbers-first_rowset.ensures in
     let many : job.many ≡ c.self.inside.log.value.known.count + length (c.self.inside.log.value.out ++ c.self.inside.log.value.queued) =

@@ -5,7 +5,7 @@ use Rattle.kt_engine.proofs.Snapshots.{none_aloft}
 use Rattle.kt_engine.proofs.engine.Engine.job_return.Goals as goal
 
 -- nothing flies
-pub merge_return-requires-clause-calm : goal.merge_return-requires-clause-calm
-merge_return-requires-clause-calm g c =
+pub come_back-requires-clause-calm : goal.come_back-requires-clause-calm
+come_back-requires-clause-calm g c =
     let tab : c.deref-2.result.now ≡ c.args.self.now.tablet = c.deref-2.ensures ∙ ap (λ (v : EngineView g.row.L.Denot g.row.D.Denot g.row.C.Denot). v.tablet) c.self.view_is in
     subst (λ (t : View g.row.C.Denot). t.core.aloft ≡ []) tab (none_aloft c.deref-2.result.now.core.aloft (sym c.least_flying.ensures ∙ c.in_default.is))

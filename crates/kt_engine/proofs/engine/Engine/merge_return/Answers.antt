@@ -8,7 +8,7 @@ use Rattle.kt_engine.specs.Near.{first_number}
 use Rattle.kt_engine.specs.Outside.{job_back}
 use Rattle.kt_engine.proofs.JobBegins.{first_is}
 use Rattle.kt_engine.proofs.JobMetas.{same_job}
-use Rattle.kt_engine.proofs.Leaving.{back_both, has_returned, same_stage}
+use Rattle.kt_engine.proofs.Leaving.{back_both, has_returned, same_stage, same_want}
 use Rattle.kt_engine.proofs.Visiting.{visit_of, upkeep_visit}
 use Rattle.kt_engine.proofs.engine.Engine.merge_return.Goals as goal
 
@@ -24,7 +24,7 @@ invariant_of-self g c =
     let count = rw c.deref-2.ensures at c.count-many.ensures in
     let many : c.count-many.result ≡ c.self.inside.log.value.known.count + length (c.self.inside.log.value.out ++ c.self.inside.log.value.queued) = omega (arith, count, length-append c.self.inside.log.value.out c.self.inside.log.value.queued) in
     let last : c.active_number-last_mem.result ≡ first_number c.self.inside.tablet.value.names = first_is c.self.inside.tablet.value.names c.active_number-last_mem.result (rw c.deref-3.ensures at c.active_number-last_mem.ensures) in
-    back_both g.L.Disk.tells g.L.Disk.seen g.L.Disk.now g.L.Disk.leaves g.L.Disk.faults g.D.Disk.tells g.D.Disk.seen g.D.Disk.faults _ c.self.invariant c.args.number job.0 job.1.has job.1.at c.count-many.result c.active_number-last_mem.result c.of-returned.result.value many last c.come_back.new.self (c.come_back.ensures.own job.0 job.1.has) c.come_back.ensures.begun
+    back_both g.L.Disk.tells g.L.Disk.seen g.L.Disk.now g.L.Disk.leaves g.L.Disk.faults g.D.Disk.tells g.D.Disk.seen g.D.Disk.faults _ c.self.invariant c.args.number job.0 job.1.has job.1.at job.2 c.count-many.result c.active_number-last_mem.result c.of-returned.result.value many last c.come_back.new.self (c.come_back.ensures.own job.0 job.1.has) c.come_back.ensures.begun
 
 pub returns-clause-visit : goal.returns-clause-visit
 returns-clause-visit g c =
@@ -45,5 +45,5 @@ returns-clause-back g c =
     rw old (λ job had.
     let taken_is : c.as_slice.result.now ≡ job.taken = c.as_slice.ensures ∙ ap (λ (j : JobView). j.taken) (same_job c.in-Some.ensures.0 c.in-Some.job.now job _ c.in-Some.ensures.1 had) in
     let own = subst (λ (l : List RowSetData). HasUpkeep c.args.number (record (upkeep_at c.args.number c.self.inside.upkeep.passes) { job = Some (job_back c.count-many.result c.active_number-last_mem.result l job) }) c.self.inside.upkeep c.come_back.new.self) c.of-returned.ensures (c.come_back.ensures.own job had) in
-    has_returned g.L.Disk.tells g.L.Disk.seen g.L.Disk.now g.L.Disk.leaves g.L.Disk.faults g.D.Disk.tells g.D.Disk.seen g.D.Disk.faults _ c.self.invariant c.args.number job had (same_stage c.args.number _ known job had) c.count-many.result c.active_number-last_mem.result c.of-now.result many last c.come_back.new.self own c.come_back.ensures.begun calm
+    has_returned g.L.Disk.tells g.L.Disk.seen g.L.Disk.now g.L.Disk.leaves g.L.Disk.faults g.D.Disk.tells g.D.Disk.seen g.D.Disk.faults _ c.self.invariant c.args.number job had (same_stage c.args.number _ (known.0, known.1) job had) (same_want c.args.number _ (known.0, known.1) known.2 job had) c.count-many.result c.active_number-last_mem.result c.of-now.result many last c.come_back.new.self own c.come_back.ensures.begun calm
     (ap (map store_in) c.of-now.ensures ∙ stores ∙ ap (λ (l : List ℕ). taken_rowsets l c.self.inside.tablet.value) taken_is) (ap (map held_in) c.of-now.ensures ∙ files ∙ ap (λ (l : List ℕ). files_taken l c.self.inside.tablet.value.files) taken_is))
