@@ -1,5 +1,5 @@
 -- A job that has begun, and its end.
-use Rattle.std.proofs.Common.{◌≡◌, ◌≢◌, ◌≤◌, ℕ, Bool, true, false, refl, sym, ap, subst, ◌∙◌, inl, arith, List, Option, Some, None, Result, Ok, Err}
+use Rattle.std.proofs.Common.{◌⊎◌, ◌≡◌, ◌≢◌, ◌≤◌, ℕ, Bool, true, false, refl, sym, ap, subst, ◌∙◌, inl, inr, arith, List, Option, Some, None, Result, Ok, Err}
 use Rattle.std.specs.Prelude.{OnOk}
 use Rattle.kt_disk.specs.Disk.{Files}
 use Rattle.kt_diskrowset.specs.declared.data.RowSetData.{RowSetData}
@@ -19,7 +19,7 @@ use Rattle.kt_engine.proofs.Visiting.{root_stays}
 use Rattle.kt_maint.specs.Done.{GivesFor}
 use Rattle.kt_engine.specs.declared.job.MaintNo.{MaintNo}
 use Rattle.kt_engine.specs.declared.job.MaintNo.TheVariants as no
-use Rattle.kt_maint.specs.Runs.{KeepsAsks, IsReady, JobIsAt, HasNoDevice, StandsAs, HasRun, RunsAs, AddsStop, is_pass, turn_of}
+use Rattle.kt_maint.specs.Runs.{KeepsAsks, OnlyJob, IsReady, JobIsAt, HasNoDevice, StandsAs, HasRun, RunsAs, AddsStop, is_pass, turn_of}
 use Rattle.kt_maint.specs.Outside.{EndsAs, EndsRead, HasEnded, HasReadTheSame, KeepsRead, LeftAs, StartsAs, ended}
 use Rattle.kt_maint.specs.declared.jobs.Start.{Start}
 use Rattle.kt_maint.specs.declared.jobs.Start.TheVariants as start
@@ -164,8 +164,8 @@ has_ended n a b w ends over visit = record {
 }
 
 -- behind steps of it
-pub ended_then : {L D C : Type 0} (n : ℕ) (a b c : EngineView L D C) (w : Want) → KeepsAsks n a.upkeep b.upkeep → HasEnded n w b c → HasEnded n w a c
-ended_then n a b c w asks h = record { job = h.job; upkeep = h.upkeep ∙ ap (ended w h.job) asks.own; given = h.given }
+pub ended_then : {L D C : Type 0} (n : ℕ) (a b c : EngineView L D C) (w : Want) → OnlyJob n a.upkeep b.upkeep → HasEnded n w b c → HasEnded n w a c
+ended_then n a b c w own h = record { job = h.job; upkeep = h.upkeep ∙ ap (ended w h.job) own; given = h.given }
 
 -- the pass asked once more, and what it asked for is done
 pub has_run : {L D C : Type 0} (n : ℕ) (a b c : EngineView L D C) (w : Want) → HasBegunNow n w a b → HasEnded n w b c → HasRun n w a c
@@ -187,7 +187,7 @@ module _ {L D C : Type 0} (n : ℕ) (a b c : EngineView L D C) (w : Want) (carri
 
       by : (x : Result (Unit {0}) MaintNo) → result ≡ x → (x ≢ Err no.Stopped → KeepsAsks n a.upkeep b.upkeep) → OnOk x (MayEnd b n w) → (x ≡ Err no.Stopped → b.tablet.core.stopped ≡ true) → (r : Result (Unit {0}) MaintNo) → r ≡ result → OnOk r ((y : Want) → MayEnd b n y → HasEnded n y b c)
           → (r ≡ Err no.Stopped → c ≡ b) → (r ≡ Err no.Memory → job_of n c.upkeep ≡ None) → EndsAs n w a c r
-      by (Ok done) is keeps may stops (Ok also) e ended still none = (ended_then n a b c w (keeps (λ h. cc)) (ended w may), away)
+      by (Ok done) is keeps may stops (Ok also) e ended still none = (ended_then n a b c w (keeps (λ h. cc)).own (ended w may), away)
       by (Ok done) is keeps may stops (Err e) i ended still none = let never : ◌≡◌ {A = Result (Unit {0}) MaintNo} (Err e) (Ok done) = i ∙ is in absurd cc
       by (Err x) is keeps may stops (Ok also) e ended still none = let never : ◌≡◌ {A = Result (Unit {0}) MaintNo} (Ok also) (Err x) = e ∙ is in absurd cc
       by (Err x) is keeps may stops (Err no.Memory) e ended still none = (away, none refl)
@@ -198,11 +198,14 @@ pub on_ok : (r : Result (Unit {0}) MaintNo) (A : Type 0) {B : Type 0} → (A →
 on_ok (Ok done) A f a = f a
 on_ok (Err e) A f a = tt
 
--- the compaction that began is outside, or is given up
-pub starts_as : {L D C : Type 0} (tells : Bool) (seen : D → Files) (n : ℕ) (w : Want) (taken : List ℕ) (a b c : EngineView L D C) (s : Start Turn D) → w ≡ want.Compact taken → HasBegunNow n w a b
-    → ((rs : List ℕ) → MergeBegins b n (want.Compact rs) → LeftAs tells seen n (want.Compact rs) b c s) → StartsAs tells seen n w a c s
-starts_as {L} {D} {C} tells seen n w taken a b c s is begun left =
-    by s (subst (λ (x : Want). LeftAs tells seen n x b c s) (sym is) (left taken (subst (BeginsBy b n) is begun.begins)))
+-- a flush or a compaction has begun
+pub begins_merge : {L D C : Type 0} (v : EngineView L D C) (n : ℕ) (w : Want) → (w ≡ want.Flush) ⊎ ((rs : List ℕ) × (w ≡ want.Compact rs)) → BeginsBy v n w → MergeBegins v n w
+begins_merge v n w (inl is) h = subst (MergeBegins v n) (sym is) (subst (BeginsBy v n) is h)
+begins_merge v n w (inr is) h = subst (MergeBegins v n) (sym is.1) (subst (BeginsBy v n) is.1 h)
+
+-- the job that began is outside, or is given up
+pub starts_as : {L D C : Type 0} (tells : Bool) (seen : D → Files) (n : ℕ) (w : Want) (a b c : EngineView L D C) (s : Start Turn D) → HasBegunNow n w a b → MergeBegins b n w → ((x : Want) → MergeBegins b n x → LeftAs tells seen n x b c s) → StartsAs tells seen n w a c s
+starts_as {L} {D} {C} tells seen n w a b c s begun merges left = by s (left w merges)
   where
     by : (x : Start Turn D) → LeftAs tells seen n w b c x → StartsAs tells seen n w a c x
     by (start.Over t) h = subst (RunsAs n w a c) (sym h.0) (h.1, λ none. h.2)
@@ -216,10 +219,10 @@ pub done_of : {L D C : Type 0} (n : ℕ) (v : EngineView L D C) (r : Result (Uni
 done_of n v r done is may = subst (λ x. OnOk x ((w : Want) × MayEnd v n w)) is may
 
 -- behind steps of a job however it ends
-pub ends_then : {L D C : Type 0} (n : ℕ) (w : Want) (a b c : EngineView L D C) (r : Result (Unit {0}) MaintNo) → KeepsAsks n a.upkeep b.upkeep → EndsAs n w b c r → EndsAs n w a c r
-ends_then n w a b c (Ok done) asks h = (ended_then n a b c w asks h.0, h.1)
-ends_then n w a b c (Err no.Memory) asks h = h
-ends_then n w a b c (Err no.Stopped) asks h = h
+pub ends_then : {L D C : Type 0} (n : ℕ) (w : Want) (a b c : EngineView L D C) (r : Result (Unit {0}) MaintNo) → OnlyJob n a.upkeep b.upkeep → EndsAs n w b c r → EndsAs n w a c r
+ends_then n w a b c (Ok done) own h = (ended_then n a b c w own h.0, h.1)
+ends_then n w a b c (Err no.Memory) own h = h
+ends_then n w a b c (Err no.Stopped) own h = h
 
 -- what is so for each want
 pub all_ok : (r : Result (Unit {0}) MaintNo) (A B : Want → Type 0) → ((w : Want) → A w → OnOk r (B w)) → OnOk r ((w : Want) → A w → B w)

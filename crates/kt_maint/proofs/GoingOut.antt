@@ -1,13 +1,12 @@
--- A compaction that goes outside the lock, and what is written there.
-use Rattle.std.proofs.Common.{◌≡◌, ◌≢◌, ◌≤◌, ◌<◌, ◌+◌, ◌^◌, ℕ, Bool, true, cond, List, [], ◌∷◌, length, map, Option, Some, None, Result, Ok, Err, refl, sym, ap, subst, ◌∙◌, arith}
+-- A job that goes outside the lock, and what is written there.
+use Rattle.std.proofs.Common.{◌≡◌, ◌≤◌, ◌<◌, ◌+◌, ◌^◌, ℕ, Bool, true, cond, List, length, map, Option, Some, None, Result, Ok, Err, refl, sym, ap, subst, ◌∙◌, arith}
 use Rattle.std.specs.Prelude.{IsTrue, IfOk, OnOk, ◌==◌}
 use Rattle.std.proofs.Math.Nat.{min-le_left, le-max_left}
 use Rattle.std.proofs.lemmas.Bool.Decides.{nat_tests}
 use Rattle.kt_disk.specs.Disk.{Files}
 use Rattle.kt_diskrowset.specs.declared.data.RowSetData.{RowSetData}
-use Rattle.kt_diskrowset.specs.declared.inputs.Inputs.{Inputs}
 use Rattle.kt_diskrowset.specs.declared.inputs.Outputs.{Outputs}
-use Rattle.kt_diskrowset.specs.Data.{held_in, store_in}
+use Rattle.kt_diskrowset.specs.Data.{held_in}
 use Rattle.kt_files.specs.Reading.{HoldAll}
 use Rattle.kt_outputs.specs.Named.{AreShort}
 use Rattle.kt_outputs.specs.Outputs.{meta_in, all_file_numbers, AreStable, AreThere, AreWritten, CountUp}
@@ -17,23 +16,21 @@ use Rattle.kt_outputs.proofs.Written.{left_none}
 use Rattle.kt_storeside.specs.declared.side.Lent.{Lent}
 use Rattle.kt_storeside.specs.Sides.{StoreView, IsSide}
 use Rattle.kt_storeside.proofs.Named.{first_file}
-use Rattle.kt_stores.specs.Takes.{rowsets as disks}
 use Rattle.kt_tablet.specs.Views.{View}
-use Rattle.kt_tablet.specs.Jobs.{taken_stores}
 use Rattle.kt_pick.specs.declared.rules.Want.{Want}
 use Rattle.kt_pick.specs.declared.rules.Want.TheVariants as want
 use Rattle.kt_engine.specs.declared.job.JobInput.{JobInput}
 use Rattle.kt_engine.specs.declared.upkeep.Stage.TheVariants as stage
 use Rattle.kt_engine.specs.Engines.{EngineView}
-use Rattle.kt_engine.specs.Jobs.{JobView, UpkeepView}
-use Rattle.kt_engine.specs.JobSteps.{AtNewStage, HasInput, Reads, TakesBy}
+use Rattle.kt_engine.specs.Jobs.{JobView, UpkeepView, taken_by}
+use Rattle.kt_engine.specs.JobSteps.{IsMerge, AtNewStage, HasInput, TakesBy}
+use Rattle.kt_engine.specs.Outside.{job_out}
 use Rattle.kt_engine.specs.Returning.{LeavesAs}
 use Rattle.kt_engine.specs.Visits.{IsVisit, Root, lent_of, out_of, part_in}
 use Rattle.kt_engine.proofs.Visiting.{root_stays}
 use Rattle.kt_maint.specs.JobRuns.{MergeBegins}
 use Rattle.kt_maint.specs.Outside.{HasRead, HasWritten, HaveFiles, IsAway, IsMergedOf, MayWrite, ReadsWell}
 use Rattle.kt_maint.specs.Runs.{IsQuiet, IsReady, JobIsAt, MayAbandon}
-use Rattle.kt_maint.specs.declared.outside.Outside.{Outside}
 use Rattle.kt_maint.proofs.Merged.{whole}
 use Rattle.kt_maint.proofs.Stages.{some_is, goes_on, is_at_then, quiet_stage}
 use Rattle.kt_maint.proofs.Visiting.{asks_same, quiet_then}
@@ -45,20 +42,19 @@ lent_some holder known n is = ap (λ (h : Option ℕ). lent_of h known n) is ∙
 pub none_out_of : {A : Type 0} (holder : Option ℕ) (out : A) (n : ℕ) (of : Option ℕ → A → ℕ → Option A) → ((x : A) → of None x n ≡ None) → holder ≡ None → of holder out n ≡ None
 none_out_of holder out n of none is = ap (λ (h : Option ℕ). of h out n) is ∙ none out
 
--- a compaction takes just the disk rowsets that were asked
-taken_is : {L D C : Type 0} (v : EngineView L D C) (job : JobView) (w : Want) (taken : List ℕ) → w ≡ want.Compact taken → TakesBy v job w → (job.taken ≡ taken) × (job.taken ≢ [])
-taken_is v job w taken is t = let h = subst (TakesBy v job) is t in (h.0, h.1.some)
+-- a job takes just the disk rowsets that were asked
+taken_is : {L D C : Type 0} (v : EngineView L D C) (job : JobView) (w : Want) → TakesBy v job w → job.taken ≡ taken_by w
+taken_is v job want.Flush f = f.none
+taken_is v job (want.Compact taken) c = c.0
+taken_is v job (want.FlushDeltas r) never = absurd never
+taken_is v job (want.Minor r) never = absurd never
+taken_is v job (want.Major r) never = absurd never
 
--- it read them alone
-reads_taken : {C : Type 0} (tablet : View C) (taken : List ℕ) (bound : ℕ) (inputs : Inputs) → taken ≢ [] → Reads tablet taken bound inputs → (inputs.mems ≡ []) × (map store_in inputs.rowsets ≡ taken_stores (disks taken) tablet)
-reads_taken tablet [] bound inputs some r = absurd (some refl)
-reads_taken tablet (x ∷ taken) bound inputs some r = r
-
--- its disk rowsets were read, and the store went out to write files
-pub record WentOut {L D C : Type 0} (tells : Bool) (seen : D → Files) (now : D → ℕ) (leaves : D → ℕ → Files → Type 0) (faults : D → ℕ) (n : ℕ) (taken : List ℕ) (a b c : EngineView L D C) (input : JobInput) (lent : Lent D) : Type 0 where
+-- what it takes was read, and the store went out to write files
+pub record WentOut {L D C : Type 0} (tells : Bool) (seen : D → Files) (now : D → ℕ) (leaves : D → ℕ → Files → Type 0) (faults : D → ℕ) (n : ℕ) (w : Want) (a b c : EngineView L D C) (input : JobInput) (lent : Lent D) : Type 0 where
   pub side : IsSide tells seen now leaves faults a.store
   pub ready : IsReady a
-  pub begins : MergeBegins a n (want.Compact taken)
+  pub begins : MergeBegins a n w
   pub read : HasRead tells n a b input
   pub went : c ≡ record b { store = record b.store { home = None; holder = Some n; lent = lent.meta }; upkeep = c.upkeep }
   pub meta : lent.meta ≡ None
@@ -70,10 +66,10 @@ pub record WentOut {L D C : Type 0} (tells : Bool) (seen : D → Files) (now : D
   pub near_files : b.store.next_file < b.first_file + 2 ^ 44
 
 -- so the turn of the store tells
-pub went_as : {L D C : Type 0} (tells : Bool) (seen : D → Files) (now : D → ℕ) (leaves : D → ℕ → Files → Type 0) (faults : D → ℕ) (n : ℕ) (taken : List ℕ) (a b c : EngineView L D C) (input : JobInput) (lent : Lent D) → IsSide tells seen now leaves faults a.store → IsReady a → MergeBegins a n (want.Compact taken)
+pub went_as : {L D C : Type 0} (tells : Bool) (seen : D → Files) (now : D → ℕ) (leaves : D → ℕ → Files → Type 0) (faults : D → ℕ) (n : ℕ) (w : Want) (a b c : EngineView L D C) (input : JobInput) (lent : Lent D) → IsSide tells seen now leaves faults a.store → IsReady a → MergeBegins a n w
     → HasRead tells n a b input → lent.device ≡ b.store.known → c ≡ record b { store = record b.store { home = None; holder = Some n; lent = lent.meta }; upkeep = c.upkeep } → lent.meta ≡ None → c.upkeep ≡ b.upkeep → (lent.next_rowset ≡ b.store.next_rowset) × (lent.next_file ≡ b.store.next_file) → IsTrue b.store.whole
-    → b.store.next_rowset < b.first_rowset + 2 ^ 44 → b.store.next_file < b.first_file + 2 ^ 44 → WentOut tells seen now leaves faults n taken a b c input lent
-went_as tells seen now leaves faults n taken a b c input lent side ready begins read device went meta upkeep numbers whole near near_files = record {
+    → b.store.next_rowset < b.first_rowset + 2 ^ 44 → b.store.next_file < b.first_file + 2 ^ 44 → WentOut tells seen now leaves faults n w a b c input lent
+went_as tells seen now leaves faults n w a b c input lent side ready begins read device went meta upkeep numbers whole near near_files = record {
   side = side;
   ready = ready;
   begins = begins;
@@ -88,8 +84,8 @@ went_as tells seen now leaves faults n taken a b c input lent side ready begins 
   near_files = near_files;
 }
 
-module _ {L D C : Type 0} (tells : Bool) (seen : D → Files) (now : D → ℕ) (leaves : D → ℕ → Files → Type 0) (faults : D → ℕ) (n : ℕ) (taken : List ℕ) (a b c : EngineView L D C) (input : JobInput) (lent : Lent D)
-    (o : WentOut tells seen now leaves faults n taken a b c input lent) where
+module _ {L D C : Type 0} (tells : Bool) (seen : D → Files) (now : D → ℕ) (leaves : D → ℕ → Files → Type 0) (faults : D → ℕ) (n : ℕ) (w : Want) (a b c : EngineView L D C) (input : JobInput) (lent : Lent D)
+    (o : WentOut tells seen now leaves faults n w a b c input lent) where
   abbrev at : JobIsAt a n stage.Begun
   at = o.begins.at
 
@@ -113,33 +109,24 @@ module _ {L D C : Type 0} (tells : Bool) (seen : D → Files) (now : D → ℕ) 
   out_at = is_at_then n b c read_at (ap (λ (v : EngineView L D C). v.tablet) o.went) (ap (λ (v : EngineView L D C). v.log) o.went) o.upkeep (ap (λ (v : EngineView L D C). v.store.meta) o.went)
       (subst (λ (k : ℕ). b.store.next_rowset ≤ k) (sym (ap (λ (v : EngineView L D C). v.store.next_rowset) o.went)) (let e : b.store.next_rowset ≤ b.store.next_rowset = omega arith in e))
 
-  its_taken : (at.job.taken ≡ taken) × (at.job.taken ≢ [])
-  its_taken = taken_is a at.job at.job.want taken o.begins.want at.takes.takes
+  its_taken : at.job.taken ≡ taken_by at.job.want
+  its_taken = taken_is a at.job at.job.want at.takes.takes
 
-  compacts : at.job.want ≡ want.Compact at.job.taken
-  compacts = o.begins.want ∙ ap want.Compact (sym its_taken.0)
-
-  -- it leaves with all that its disk rowsets have
+  -- it leaves with all that it takes has
   pub leaves_as : LeavesAs c.tablet out_at.job
   unfolding out_at read_at
   leaves_as =
-      let r = reads_taken a.tablet at.job.taken input.bound input.inputs its_taken.1 has_input.reads in
       subst (λ (t : View C). LeavesAs t out_at.job) (sym same_tablet) (record {
         inputs = input.inputs;
         read = refl;
         bound = has_input.bound_is;
         mark = has_input.mark_is;
-        no_lists = r.0;
-        stores = r.1;
+        reads = has_input.reads;
         files = has_input.files;
       })
 
-  pub out_compacts : out_at.job.want ≡ want.Compact out_at.job.taken
-  unfolding out_at read_at
-  out_compacts = compacts
-
   -- and is outside
-  module _ (d : EngineView L D C) (most : ℕ) (few : most ≤ lent.next_file + 2 ^ 34) (visit : IsVisit n a d) (left : AtNewStage n (record out_at.job { stage = stage.Outside }) c d) where
+  module _ (d : EngineView L D C) (most : ℕ) (few : most ≤ lent.next_file + 2 ^ 34) (visit : IsVisit n a d) (left : AtNewStage n (job_out c.tablet.frozen out_at.job) c d) where
     same_store : d.store ≡ record b.store { home = None; holder = Some n; lent = lent.meta }
     same_store = ap (λ (v : EngineView L D C). v.store) left.beside ∙ ap (λ (v : EngineView L D C). v.store) o.went
 
@@ -155,7 +142,7 @@ module _ {L D C : Type 0} (tells : Bool) (seen : D → Files) (now : D → ℕ) 
       apart = (let x = first_file a.store.meta o.side.rules in let y = o.side.files in let z = o.numbers.1 ∙ ap (λ (s : StoreView D). s.next_file) its_store in omega arith);
     }
 
-    pub is_away : IsAway tells seen n (want.Compact taken) (record { input = input; most = most; lent = lent }) (part_in d n)
+    pub is_away : IsAway tells seen n w (record { input = input; most = most; lent = lent }) (part_in d n)
     unfolding out_at read_at
     is_away = record {
       log = ap (λ h. out_of h d.log.out n) (ap (λ (v : EngineView L D C). v.log.holder) left.beside ∙ ap (λ (v : EngineView L D C). v.log.holder) o.went ∙ ap (λ (v : EngineView L D C). v.log.holder) later.beside ∙ o.ready.settled.2);
@@ -173,10 +160,10 @@ module _ {L D C : Type 0} (tells : Bool) (seen : D → Files) (now : D → ℕ) 
       near_files = subst (λ (s : StoreView D). s.next_file < d.first_file + 2 ^ 44) (sym same_store)
           (subst (λ (k : ℕ). b.store.next_file < k + 2 ^ 44) (sym (ap (λ (v : EngineView L D C). v.first_file) left.beside ∙ ap (λ (v : EngineView L D C). v.first_file) o.went)) o.near_files);
       few_files = few;
-      job = record out_at.job { stage = stage.Outside };
+      job = job_out c.tablet.frozen out_at.job;
       own = ap (λ (u : UpkeepView). u.job) left.upkeep.own;
       at = refl;
-      want = (o.begins.want, ap want.Compact (sym its_taken.0));
+      want = (o.begins.want, subst IsMerge o.begins.want at.want, its_taken ∙ ap taken_by o.begins.want);
       output = at.output;
       inputs = refl;
       times = (refl, refl);
@@ -191,7 +178,7 @@ went_quiet n a b c d quiet out went upkeep left job at =
     let mid : IsQuiet n b c = record { visit = out; tablet = ap (λ v. v.tablet) went; log = ap (λ v. v.log) went; asks = asks_same n b.upkeep c.upkeep upkeep } in
     quiet_then n a c d (quiet_then n a b c quiet mid) (quiet_stage n c d job at left)
 
--- a compaction that has read may still be given up
+-- a job that has read may still be given up
 pub read_abandon : {L D C : Type 0} (tells : Bool) (n : ℕ) (a b : EngineView L D C) (input : JobInput) → HasRead tells n a b input → a.upkeep.publishing ≡ None → MayAbandon b n
 read_abandon tells n a b input read free = record {
   job = record read.job { stage = stage.Read; bound = input.bound; mark = input.mark; inputs = Some input.inputs };
@@ -214,7 +201,7 @@ pub none_written : {D : Type 0} (tells : Bool) (seen : D → Files) (now : D →
 none_written tells seen now leaves faults most input lent small = record {
   meta = refl;
   up = ((let e : lent.next_rowset ≤ lent.next_rowset = omega arith in e), (let e : lent.next_file ≤ lent.next_file = omega arith in e));
-  risen = (let e : lent.next_rowset ≤ lent.next_rowset + 2 ^ 32 = omega arith in e);
+  risen = (let e : lent.next_rowset ≤ lent.next_rowset + 2 ^ 31 = omega arith in e);
   small = small;
   few_files = le-max_left lent.next_file most;
   left = λ t. left_none seen now leaves lent.next_file lent.device;

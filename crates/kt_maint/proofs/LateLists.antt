@@ -9,7 +9,7 @@ use Rattle.kt_history.specs.Rows.{Row, Rows, key_cmp}
 use Rattle.kt_history.specs.Stores.{Hist, hist_in}
 use Rattle.kt_history.specs.Views.{AreRising}
 use Rattle.kt_histlaws.specs.Histories.{hists, AtMostOne}
-use Rattle.kt_rowfiles.specs.Files.{DiskRowset, row_under, records_in, falling}
+use Rattle.kt_rowfiles.specs.Files.{DiskRowset, row_under, hist_in_files, records_in, falling}
 use Rattle.kt_rowfiles.specs.Fitting.{steps_fit, rows_fit, undos_fit}
 use Rattle.kt_rowfiles.specs.Merging.{joined_history}
 use Rattle.kt_content.specs.Content.{LacksNumber, NumbersDiffer}
@@ -185,15 +185,20 @@ fit_each way rows (f ∷ files) are = (are.0.fits, fit_each way rows files are.1
 fit_of : (way : Way) (rows : List KeyedRow) (files : List FileHeld) → AreOfWay way (length rows) files → AreFit way (length (rows_of rows)) (lists_of files)
 fit_of way rows files are = subst (λ (n : ℕ). AreFit way n (lists_of files)) (sym (length-map rows (λ (r : KeyedRow). (r.key, r.cells)))) (fit_each way (length rows) files are)
 
+-- one with REDO files that came to it passes where each of its histories does
+pub one_again : (rules : Rules) → AreRules rules → a_rowset_of_passing_histories_passes → histories_of_passing_rowsets_pass → (o l : RowSetData) → ((q : List ℕ) → HistPasses rules q (hist_in_files q (files_in o)) → HistPasses rules q (hist_in_files q (files_in l)))
+    → AreRising (keys_under (files_in o).base) → RowsetPasses rules (files_in o) → AddsLate (held_in o) (held_in l) → IsWhole l → RowsetPasses rules (files_in l)
+one_again rules are passes back o l each rise pass adds whole =
+    let base : (files_in l).base ≡ (files_in o).base = ap (λ (h : HeldFiles). rows_of h.base.2.rows) adds.are in
+    let undos : (files_in l).undos ≡ (files_in o).undos = sym (lists_are l.undo) ∙ ap (λ (h : HeldFiles). map (λ (f : ℕ × ℕ × FileView). f.2.list) h.undos) adds.are ∙ lists_are o.undo in
+    passes rules (files_in l) are (λ q. each q (back rules are q (files_in o ∷ []) (pass, tt)).0)
+    (subst (λ (rows : Rows). AreRising (keys_under rows)) (sym base) rise) (undos_fit_same (files_in o) (files_in l) base undos pass.fits)
+    (fit_of Undo l.base.set.value.rows l.undo whole.undo) (fit_of Redo l.base.set.value.rows l.redo whole.redo)
+
 module _ (rules : Rules) (are : AreRules rules) (j bound : ℕ) (le : j ≤ bound) (now : List RowSetData) (none : AllByRecursion (HasNoneAbove bound) now) (joined : (q : List ℕ) → HistPasses rules q (joined_history j (hists_now q now)))
     (late_passes : a_late_output_passes) (passes : a_rowset_of_passing_histories_passes) (back : histories_of_passing_rowsets_pass) where
   one_passes : (o l : RowSetData) → AreRising (keys_under (files_in o).base) → RowsetPasses rules (files_in o) → TellsLate bound now o l → AddsLate (held_in o) (held_in l) → IsWhole l → RowsetPasses rules (files_in l)
-  one_passes o l rise pass tells adds whole =
-      let base : (files_in l).base ≡ (files_in o).base = ap (λ (h : HeldFiles). rows_of h.base.2.rows) adds.are in
-      let undos : (files_in l).undos ≡ (files_in o).undos = sym (lists_are l.undo) ∙ ap (λ (h : HeldFiles). map (λ (f : ℕ × ℕ × FileView). f.2.list) h.undos) adds.are ∙ lists_are o.undo in
-      passes rules (files_in l) are (λ q. late_passes rules j bound q now o l le none (joined q) (back rules are q (files_in o ∷ []) (pass, tt)).0 tells)
-      (subst (λ (rows : Rows). AreRising (keys_under rows)) (sym base) rise) (undos_fit_same (files_in o) (files_in l) base undos pass.fits)
-      (fit_of Undo l.base.set.value.rows l.undo whole.undo) (fit_of Redo l.base.set.value.rows l.redo whole.redo)
+  one_passes o l rise pass tells adds whole = one_again rules are passes back o l (λ q own. late_passes rules j bound q now o l le none (joined q) own tells) rise pass adds whole
 
   pub late_pass : (out late : List RowSetData) → AllRise (map files_in out) → RowsetsPass rules (map files_in out) → AllTellLate bound now out late → AllAddLate out late → AreWhole late → RowsetsPass rules (map files_in late)
   late_pass [] [] rise pass tells adds whole = tt

@@ -98,7 +98,7 @@ abbrev pub home_with : {D : Type 0} → StoreView D → Lent D → StoreView D
 home_with s lent = record s { home = Some lent.device; known = lent.device; holder = None; lent = None; next_rowset = lent.next_rowset; next_file = lent.next_file; whole = true }
 
 -- not too many rowset numbers are used
-pub few_numbers : (first store went came : ℕ) → store < first + 2 ^ 44 → went ≡ store → came ≤ went + 2 ^ 32 → came ≤ max store (first + most_rowsets)
+pub few_numbers : (first store went came : ℕ) → store < first + 2 ^ 44 → went ≡ store → came ≤ went + 2 ^ 31 → came ≤ max store (first + most_rowsets)
 few_numbers first store went came near is risen = let right = le-max_right store (first + most_rowsets) in omega (arith, near, is, risen, right)
 
 few_files : (first store went came most : ℕ) → went ≡ store → most ≤ first + most_files → came ≤ max went most → came ≤ max store (first + most_files)
@@ -143,22 +143,32 @@ module _ {L D C : Type 0} (tells : Bool) (seen : D → Files) (now : D → ℕ) 
   pub may_give_up : IsOutsideFree n e → MayAbandon e n
   may_give_up free = record { job = come.away.job; has = come.away.own; early = subst IsUnpublished (sym come.away.at) tt; free = free come.away.job come.away.own come.away.at }
 
+few_more : (first store went lent came : ℕ) → store < first + 2 ^ 44 → went ≡ store → lent ≤ went + 2 ^ 31 → came ≤ lent + 2 ^ 31 → came ≤ max store (first + most_rowsets)
+few_more first store went lent came near is risen more = let right = le-max_right store (first + most_rowsets) in omega (arith, near, is, risen, more, right)
+
 -- and with what came later
-pub home_then : {D : Type 0} (tells : Bool) (seen : D → Files) (now : D → ℕ) (leaves : D → ℕ → Files → Type 0) (faults : D → ℕ) (first_rowset first_file most : ℕ) (store : StoreView D) (lent came : Lent D) (r : Result Outputs WriteNo)
-    → most ≤ first_file + most_files → MayComeHome tells seen now leaves faults first_rowset first_file store lent → HasAdded tells seen now leaves faults most lent came r → MayComeHome tells seen now leaves faults first_rowset first_file store came
-home_then tells seen now leaves faults first_rowset first_file most store lent came r low may added = record {
-  whole = may.whole;
-  meta = (added.meta ∙ may.meta.0, may.meta.1);
-  up = ((let a = may.up.0 in let b = added.rowset in omega arith), (let a = may.up.1 in let b = added.up in omega arith));
-  left = λ told. left_then seen now leaves store.next_file lent.next_file came.next_file store.known lent.device came.device may.up.1 added.up (may.left told) (added.left told);
-  faults_rise = (let a = may.faults_rise in let b = added.faults_rise in omega arith);
-  near = subst (λ (k : ℕ). k ≤ max store.next_rowset (first_rowset + most_rowsets)) (sym added.rowset) may.near;
-  near_files = (let near = may.near_files in let few = added.few_files in let right = le-max_right store.next_file (first_file + most_files) in omega (arith, low, near, few, right));
-}
+pub home_then : {L D C : Type 0} (tells : Bool) (seen : D → Files) (now : D → ℕ) (leaves : D → ℕ → Files → Type 0) (faults : D → ℕ) (n bound most : ℕ) (lent came : Lent D) (w r : Result Outputs WriteNo) (e : EngineView L D C)
+    → HasCome tells seen now leaves faults n bound most lent w (part_in e n) → HasAdded tells seen now leaves faults most lent came r → MayComeHome tells seen now leaves faults e.first_rowset e.first_file e.store came
+home_then tells seen now leaves faults n bound most lent came w r e come added =
+    let may = may_come_home tells seen now leaves faults n bound most lent w e come in
+    record {
+      whole = may.whole;
+      meta = (added.meta ∙ may.meta.0, may.meta.1);
+      up = ((let a = may.up.0 in let b = added.up.0 in omega arith), (let a = may.up.1 in let b = added.up.1 in omega arith));
+      left = λ told. left_then seen now leaves e.store.next_file lent.next_file came.next_file e.store.known lent.device came.device may.up.1 added.up.1 (may.left told) (added.left told);
+      faults_rise = (let a = may.faults_rise in let b = added.faults_rise in omega arith);
+      near = few_more e.first_rowset e.store.next_rowset come.out.lent.next_rowset lent.next_rowset came.next_rowset (its_near tells seen now leaves faults n bound most lent w e come) (went_out tells seen now leaves faults n bound most lent w e come).numbers.0 come.written.risen added.risen;
+      near_files = (
+          let low = its_most tells seen now leaves faults n bound most lent w e come in
+          let near = may.near_files in
+          let few = added.few_files in
+          let right = le-max_right e.store.next_file (e.first_file + most_files) in
+          omega (arith, low, near, few, right));
+    }
 
 module _ {L D C : Type 0} (tells : Bool) (seen : D → Files) (now : D → ℕ) (leaves : D → ℕ → Files → Type 0) (faults : D → ℕ) (n bound most : ℕ) (lent came : Lent D) (outs : Outputs) (done : List RowSetData) (r : Result Outputs WriteNo) (e : EngineView L D C) (u : UpkeepsView)
     (come : HasCome tells seen now leaves faults n bound most lent (Ok outs) (part_in e n)) (side : IsSide tells seen now leaves faults e.store) (added : HasAdded tells seen now leaves faults most lent came r)
-    (put : IsPutIn tells seen now leaves n bound lent came outs.rowsets done e (record e { upkeep = u })) (small : bound < 2 ^ 64) where
+    (put : IsPutIn tells seen now leaves n bound lent came come.away.job outs.rowsets done e (record e { upkeep = u })) (small : bound < 2 ^ 64) (asked : List ℕ) (is : come.away.job.want ≡ want.Compact asked) where
   abbrev pub e1 : EngineView L D C
   e1 = record e { upkeep = u }
 
@@ -186,14 +196,14 @@ module _ {L D C : Type 0} (tells : Bool) (seen : D → Files) (now : D → ℕ) 
   pub home : MayComeHome tells seen now leaves faults e.first_rowset e.first_file e.store lent
   home = may_come_home tells seen now leaves faults n bound most lent (Ok outs) e come
 
-  pub back : HasReturned tells n job put.list e e1
-  back = subst (λ (j : JobView). HasReturned tells n j put.list e e1) (some_is put.job job (sym put.had ∙ come.away.own)) put.back
+  abbrev pub back : HasReturned tells n job put.list e e1
+  back = put.back
 
   abbrev pub its : JobView
   its = job_back back.many (first_number e.tablet.names) put.list job
 
   pub compacts : job.want ≡ want.Compact job.taken
-  compacts = come.away.want.0 ∙ come.away.want.1
+  compacts = is ∙ ap want.Compact (sym (come.away.want.2 ∙ ap taken_by (sym come.away.want.0 ∙ is)))
 
   -- ---- its job is back
 
@@ -215,7 +225,7 @@ module _ {L D C : Type 0} (tells : Bool) (seen : D → Files) (now : D → ℕ) 
   }
 
   pub more : e.store.next_rowset ≤ came.next_rowset
-  more = let a = home.up.0 in let b = added.rowset in omega arith
+  more = let a = home.up.0 in let b = put.with_late.files.rowset in omega arith
 
   pub at_home : JobIsAt e2 n stage.Read
   unfolding at_back
@@ -340,7 +350,7 @@ module _ {L D C : Type 0} (tells : Bool) (seen : D → Files) (now : D → ℕ) 
 
   pub named : outputs_come_behind → some_may_be_named → late_files_may_be_named → AreRowsets came.next_rowset came.next_file 0 [] (left ++ map (meta_in 0) done)
   named behind fewer late =
-      subst (λ (k : ℕ). AreRowsets k came.next_file 0 [] (left ++ map (meta_in 0) done)) (sym added.rowset)
+      subst (λ (k : ℕ). AreRowsets k came.next_file 0 [] (left ++ map (meta_in 0) done)) (sym put.with_late.files.rowset)
       (late left lent.next_rowset lent.next_file came.next_file out put.with_late.late done
       (behind left e.store.meta.next_rowset e.store.meta.next_file e.store.next_rowset e.store.next_file lent.next_rowset lent.next_file made out
       (left_named (takes_of its) e.store.meta.next_rowset e.store.meta.next_file fewer side.rules.rowsets) (left_named (takes_of its) lent.next_rowset lent.next_file fewer later_rowsets)
@@ -349,18 +359,18 @@ module _ {L D C : Type 0} (tells : Bool) (seen : D → Files) (now : D → ℕ) 
 
   pub stable : IsTrue tells → AreStable seen now leaves e.store.next_file came.next_file came.device
   stable t =
-      stable_then seen now leaves e.store.next_file lent.next_file came.next_file e.store.known lent.device came.device home.up.1 added.up
+      stable_then seen now leaves e.store.next_file lent.next_file came.next_file e.store.known lent.device came.device home.up.1 added.up.1
       (subst (λ (k : ℕ). AreStable seen now leaves k lent.next_file lent.device) went.numbers.1 (files.stable t)) (added.left t) (put.with_late.files.stable t)
 
   pub stand : outputs_stand → late_files_stand → IsTrue tells → (image : Files) → leaves came.device (now came.device) image → HasNamed left (seen came.device) image → HasNamed (left ++ map (meta_in 0) done) (seen came.device) image
   stand stands late t image here is =
       late left lent.next_file came.next_file out put.with_late.late done (seen came.device) image put.with_late.adds put.with_late.files.numbered (put.with_late.files.stable t image here)
-      (stands left e.store.next_file lent.next_file out (seen came.device) image numbered (λ k lo hi. stable t image here k lo (let up = added.up in omega arith)) is)
+      (stands left e.store.next_file lent.next_file out (seen came.device) image numbered (λ k lo hi. stable t image here k lo (let up = added.up.1 in omega arith)) is)
 
   -- ---- so they may be handed in
 
-  pub ends : EndsWith (IsFound e2) job.want job.bound input.inputs (Some put.list) out done
-  ends = subst (λ (w : Want). EndsWith (IsFound e2) w job.bound input.inputs (Some put.list) out done) (sym compacts) (record {
+  pub ends : EndsWith (IsFound e2) job.want its input.inputs out done
+  ends = subst (λ (w : Want). EndsWith (IsFound e2) w its input.inputs out done) (sym compacts) (record {
     now = put.list;
     is = refl;
     later = later;
@@ -383,8 +393,8 @@ module _ {L D C : Type 0} (tells : Bool) (seen : D → Files) (now : D → ℕ) 
         from = from_same job.first_rowset out done stay (from_written job.first_rowset e.store.next_rowset made out given written);
         differ = differ_same out done stay (differ_written e.store.next_rowset made out written);
         given = below_same (before came.next_rowset its.last_mem) out done stay
-            (below_written e.store.next_rowset came.next_rowset its.last_mem made out (let a = files.rowset in let b = went.numbers.0 in let c = added.rowset in omega arith) written);
-        small = subst (λ (k : ℕ). k < 2 ^ 64) (sym added.rowset) come.written.small;
+            (below_written e.store.next_rowset came.next_rowset its.last_mem made out (let a = files.rowset in let b = went.numbers.0 in let c = put.with_late.files.rowset in omega arith) written);
+        small = subst (λ (k : ℕ). k < 2 ^ 64) (sym put.with_late.files.rowset) come.written.small;
         hold = hold_files others;
         holds = hold_late late_alike once rise same;
         passes = late_all_pass pass still late_passes passes histories;
@@ -404,7 +414,7 @@ pub rose_after : (a b c : ℕ) → a ≤ b → Rose b c → Rose a c
 rose_after a b c le rose = omega (arith, le, rose)
 
 -- the store that comes home
-pub home_of : {L D C : Type 0} (tells : Bool) (seen : D → Files) (now : D → ℕ) (leaves : D → ℕ → Files → Type 0) (faults : D → ℕ) (a b : EngineView L D C) (lent : Lent D) → b ≡ record a { upkeep = b.upkeep }
+pub home_of : {L D C : Type 0} (tells : Bool) (seen : D → Files) (now : D → ℕ) (leaves : D → ℕ → Files → Type 0) (faults : D → ℕ) (a b : EngineView L D C) (lent : Lent D) → b ≡ record a { tablet = b.tablet; upkeep = b.upkeep }
     → MayComeHome tells seen now leaves faults a.first_rowset a.first_file a.store lent → MayComeHome tells seen now leaves faults b.first_rowset b.first_file b.store lent
 home_of {L} {D} {C} tells seen now leaves faults a b lent beside = subst (λ (v : EngineView L D C). MayComeHome tells seen now leaves faults v.first_rowset v.first_file v.store lent) (sym beside)
 
@@ -423,5 +433,5 @@ pub log_free : {L D C : Type 0} (n : ℕ) (v : EngineView L D C) → (part_in v 
 log_free n v e = out_none v.log.holder v.log.out n e
 
 -- its store is home
-pub home_both : {L D C : Type 0} (v v1 v2 : EngineView L D C) (came : Lent D) → v2 ≡ record v1 { store = home_with v1.store came } → v1 ≡ record v { upkeep = v1.upkeep } → v2 ≡ record v { store = home_with v.store came; upkeep = v1.upkeep }
-home_both {L} {D} {C} v v1 v2 came home beside = home ∙ ap (λ (x : EngineView L D C). record x { store = home_with x.store came; upkeep = v1.upkeep }) beside
+pub home_both : {L D C : Type 0} (v v1 v2 : EngineView L D C) (came : Lent D) → v2 ≡ record v1 { store = home_with v1.store came } → v1 ≡ record v { tablet = v1.tablet; upkeep = v1.upkeep } → v2 ≡ record v { tablet = v1.tablet; store = home_with v.store came; upkeep = v1.upkeep }
+home_both {L} {D} {C} v v1 v2 came home beside = home ∙ ap (λ (x : EngineView L D C). record x { tablet = v1.tablet; store = home_with x.store came; upkeep = v1.upkeep }) beside

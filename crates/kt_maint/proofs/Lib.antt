@@ -16,7 +16,13 @@ pub mod Written
 pub mod Calling
 pub mod RowsetsMore
 pub mod LateLists
+pub mod ChangeLists
+pub mod SinceWritten
+pub mod SinceAdded
 pub mod LateWritten
+pub mod EndLaws
 pub mod GoingOut
 pub mod Returns
+pub mod Backs
+pub mod HandOver
 pub mod Between

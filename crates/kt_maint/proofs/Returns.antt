@@ -57,9 +57,9 @@ use Rattle.kt_maint.proofs.Written.{last_is, names_written, no_dms}
 pub none_added : {D : Type 0} (tells : Bool) (seen : D → Files) (now : D → ℕ) (leaves : D → ℕ → Files → Type 0) (faults : D → ℕ) (most : ℕ) (lent : Lent D) → HasAdded tells seen now leaves faults most lent lent (Err write_no.Memory)
 none_added tells seen now leaves faults most lent = record {
   meta = refl;
+  up = ((let e : lent.next_rowset ≤ lent.next_rowset = omega arith in e), (let e : lent.next_file ≤ lent.next_file = omega arith in e));
+  risen = (let e : lent.next_rowset ≤ lent.next_rowset + 2 ^ 31 = omega arith in e);
   few_files = le-max_left lent.next_file most;
-  rowset = refl;
-  up = (let e : lent.next_file ≤ lent.next_file = omega arith in e);
   left = λ t. left_none seen now leaves lent.next_file lent.device;
   faults_rise = (let e : faults lent.device ≤ faults lent.device = omega arith in e);
   rose = λ never. absurd cc;
@@ -67,11 +67,11 @@ none_added tells seen now leaves faults most lent = record {
 
 -- the files that came are written
 module _ {D : Type 0} (tells : Bool) (seen : D → Files) (now : D → ℕ) (leaves : D → ℕ → Files → Type 0) (went came : Lent D) (late : List RowSetData) where
-  pub have_late : (r : Result Outputs WriteNo) → IfOk r (λ done. AreAgain late done.rowsets) → IfOk r (λ done. AllNumbered went.next_file came.next_file late done.rowsets)
+  pub have_late : came.next_rowset ≡ went.next_rowset → (r : Result Outputs WriteNo) → IfOk r (λ done. AreAgain late done.rowsets) → IfOk r (λ done. AllNumbered went.next_file came.next_file late done.rowsets)
       → IfOk r (λ done. IsTrue tells → (files : Files) → AreThere went.next_file came.next_file (seen came.device) files → AllKeptStand files late → HoldAll files (map (meta_in 0) done.rowsets) (map held_in done.rowsets))
       → OnOk r (IsTrue tells → AreStable seen now leaves went.next_file came.next_file came.device) → IfOk r (λ done. HaveLateFiles tells seen now leaves went came late done.rowsets)
-  have_late (Ok done) again numbered holds stable = record { again = again; numbered = numbered; holds = λ t kept. holds t (seen came.device) (λ k lo hi. refl) kept; stable = stable }
-  have_late (Err x) again numbered holds stable = tt
+  have_late same (Ok done) again numbered holds stable = record { again = again; rowset = same; numbered = numbered; holds = λ t kept. holds t (seen came.device) (λ k lo hi. refl) kept; stable = stable }
+  have_late same (Err x) again numbered holds stable = tt
 
 -- ---- behind a step of the log alone
 
@@ -221,7 +221,7 @@ module _ {L D C : Type 0} (tells : Bool) (seen : D → Files) (now : D → ℕ) 
           out = may.out;
           written = may.written;
           done = out;
-          ends = ends_as (IsFound a) (IsFound b) (λ past found. found) job.want job.bound may.merged.inputs job.returned may.out out may.ends;
+          ends = ends_as (IsFound a) (IsFound b) (λ past found. found) job.want may.at.job job refl refl refl may.merged.inputs may.out out may.ends;
           from = has.from;
           metas = has.metas;
           held = has.held;

@@ -16,7 +16,7 @@ use Rattle.kt_engine.specs.Jobs.{JobView, UpkeepView, UpkeepsView, HasRowset, Ha
 use Rattle.kt_pick.specs.declared.rules.Want.{Want}
 use Rattle.kt_pick.specs.declared.rules.Want.TheVariants as want
 use Rattle.kt_engine.specs.JobSteps.{TakesInputs, TakesBy, AreUpTo, AtNewStage}
-use Rattle.kt_maint.specs.Runs.{KeepsAsks, IsQuiet, IsReady, JobIsAt, GoesOn, MayAbandon}
+use Rattle.kt_maint.specs.Runs.{KeepsAsks, IsQuiet, IsReady, JobIsAt, MayAbandon}
 
 pub some_is : {A : Type 0} (x y : A) → Some x ≡ Some y → x ≡ y
 some_is x y e = cc
@@ -73,17 +73,6 @@ module _ {L D C : Type 0} (n : ℕ) (a b : EngineView L D C) where
     as_many = subst (λ (v : View C). length v.names ≡ length v.core.stores) (sym (ap (λ (v : EngineView L D C). v.tablet) h.beside)) at.as_many;
   }
 
-  -- it is the job that it was
-  pub stage_on : (job : JobView) (t : Stage) (bound mark : ℕ) (inputs : Option Inputs) (metas : List MetaRowset) (held : List HeldFiles) (room super : ℕ) → job_of n a.upkeep ≡ Some job → AtNewStage n (staged job t bound mark inputs metas held room super) a b → GoesOn n a.upkeep b.upkeep
-  stage_on job t bound mark inputs metas held room super had h = record {
-    was = job;
-    had = had;
-    job = staged job t bound mark inputs metas held room super;
-    has = ap (λ (u : UpkeepView). u.job) h.upkeep.own;
-    want = refl;
-    takes = refl;
-  }
-
   -- nothing but what passes have of maintenance has changed, through two steps or none
   pub beside_then : (c : EngineView L D C) → b ≡ record a { upkeep = b.upkeep } → c ≡ record b { upkeep = c.upkeep } → c ≡ record a { upkeep = c.upkeep }
   beside_then c first second = second ∙ ap (λ (v : EngineView L D C). record v { upkeep = c.upkeep }) first
@@ -126,8 +115,3 @@ module _ {L D C : Type 0} (n : ℕ) (a b : EngineView L D C) where
 -- a job that publishes nothing may be given up
 pub may_abandon : {L D C : Type 0} (v : EngineView L D C) (n : ℕ) {s : Stage} → JobIsAt v n s → IsUnpublished s → MayAbandon v n
 may_abandon v n at early = record { job = at.job; has = at.has; early = subst IsUnpublished (sym at.at) early; free = at.free }
-
--- ---- the job of a pass from one step to the next
-
-pub want_same : (n : ℕ) (a b : UpkeepsView) (on : GoesOn n a b) (was job : JobView) → job_of n a ≡ Some was → job_of n b ≡ Some job → job.want ≡ was.want
-want_same n a b on was job had has = ap (λ (j : JobView). j.want) (some_is job on.job (sym has ∙ on.has)) ∙ on.want ∙ ap (λ (j : JobView). j.want) (some_is on.was was (sym on.had ∙ had))

@@ -1,5 +1,5 @@
 -- What a job that is done was handed out, and what it gave.
-use Rattle.std.specs.Prelude.{◌≡◌, ◌≢◌, ℕ, List, map, Option, Some, None}
+use Rattle.std.specs.Prelude.{◌≡◌, ◌≢◌, ◌++◌, ℕ, List, map, Option, Some, None}
 use Rattle.std.specs.List.{AllByRecursion}
 use Rattle.std.specs.FinMap.Entries.{find}
 use Rattle.kt_history.specs.History.{Past}
@@ -10,7 +10,7 @@ use Rattle.kt_diskrowset.specs.declared.inputs.Inputs.{Inputs}
 use Rattle.kt_content.specs.Flushes.{AreFrom}
 use Rattle.kt_diskrowset.specs.Data.{files_in, held_in, store_in}
 use Rattle.kt_joblaws.specs.Late.{AllHaveLater, hists_now}
-use Rattle.kt_merge.specs.Late.{AllTellLate, HasNoneAbove}
+use Rattle.kt_merge.specs.Late.{AllTellChanges, AllTellLate, HasNoneAbove}
 use Rattle.kt_merge.specs.Merge.{hists_of, hists_upto, hists_written, HaveEach, IsOfInput}
 use Rattle.kt_merge.specs.Told.{told_by_all, AreOutputs}
 use Rattle.kt_outputs.specs.Again.{AreAgain, AllAddLate}
@@ -19,7 +19,10 @@ use Rattle.kt_pick.specs.declared.rules.Want.{Want}
 use Rattle.kt_pick.specs.declared.rules.Want.TheVariants as want
 use Rattle.kt_tablet.specs.Views.{Opens}
 use Rattle.kt_engine.specs.DeltaJobs.{HasShape, FilesStay}
+use Rattle.kt_engine.specs.declared.again.MemsNow.{MemsNow}
 use Rattle.kt_engine.specs.Jobs.{JobView, taken_by}
+use Rattle.kt_engine.specs.Outside.{hists_read}
+use Rattle.kt_engine.specs.Returning.{hists_in}
 use Rattle.kt_engine.specs.Visits.{PartView, Root}
 
 -- opening found this past, as each part of the engine tells
@@ -48,10 +51,29 @@ pub record HasPutLate (found : Past → Type 0) (bound : ℕ) (inputs : Inputs) 
   pub adds : AllAddLate out late
   pub again : AreAgain late done
 
--- what a job that merges gives in the end, of what it wrote first: a compaction with what came meanwhile, and a flush just that
-abbrev pub EndsWith : (Past → Type 0) → Want → ℕ → Inputs → Option (List RowSetData) → List RowSetData → List RowSetData → Type 0
-EndsWith found (want.Compact taken) bound inputs returned out done = HasPutLate found bound inputs returned out done
-EndsWith found _ bound inputs returned out done = done ≡ out
+-- What the MemRowSets have that a flush took, as it was handed out when it came back. Where opening found a past, those that it took with it have behind what was read changes above its bound: each output has those of its own
+-- rows too, as REDO files more, and these were written. What the others have is merged as what was read first was, and written behind
+pub record HasPutSince (found : Past → Type 0) (job : JobView) (inputs : Inputs) (out done : List RowSetData) : Type 0 where
+  pub mems : MemsNow
+  pub is : job.again ≡ Some mems
+  pub later : (first : Past) → found first → (q : List ℕ) → AllHaveLater job.bound (hists_read want.Flush inputs q) (hists_in q mems.now)
+  pub late : List RowSetData
+  pub tells : AllTellChanges job.bound mems.now out late
+  pub adds : AllAddLate out late
+  pub firsts : List RowSetData
+  pub again : AreAgain late firsts
+  pub made : List RowSetData
+  pub merged : AreMerged found (record job { inputs = Some mems.since.inputs; bound = mems.since.bound; mark = mems.since.mark }) made
+  pub number : ℕ
+  pub more : List RowSetData
+  pub written : AreWritten number made more
+  pub both : done ≡ firsts ++ more
+
+-- what a job that merges gives in the end, of what it wrote first: it has what came meanwhile
+abbrev pub EndsWith : (Past → Type 0) → Want → JobView → Inputs → List RowSetData → List RowSetData → Type 0
+EndsWith found want.Flush job inputs out done = HasPutSince found job inputs out done
+EndsWith found (want.Compact taken) job inputs out done = HasPutLate found job.bound inputs job.returned out done
+EndsWith found _ job inputs out done = ⊥
 
 -- A flush or a compaction has taken what it is for. What it wrote first is what merging makes, under numbers that were given since it began, and it gives that with what came meanwhile
 pub record GivesMerged (found : Past → Type 0) (job : JobView) : Type 0 where
@@ -62,7 +84,7 @@ pub record GivesMerged (found : Past → Type 0) (job : JobView) : Type 0 where
   pub out : List RowSetData
   pub written : AreWritten first made out
   pub done : List RowSetData
-  pub ends : EndsWith found job.want job.bound merged.inputs job.returned out done
+  pub ends : EndsWith found job.want job merged.inputs out done
   pub from : AreFrom job.first_rowset (map files_in done)
   pub metas : job.metas ≡ map (meta_in 0) done
   pub held : job.held ≡ map held_in done

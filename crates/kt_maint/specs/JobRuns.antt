@@ -65,8 +65,9 @@ pub record HasBegunNow {L D C : Type 0} (n : ℕ) (w : Want) (old new : EngineVi
   pub ready : IsReady new
   pub line : new.tablet.core.trail ≡ old.tablet.core.trail
 
--- a compaction goes outside the lock, and the others stay in one visit
+-- a flush and a compaction go outside the lock, and the others stay in one visit
 abbrev pub StaysInside : Want → Type 0
+StaysInside want.Flush = ⊥
 StaysInside (want.Compact taken) = ⊥
 StaysInside _ = Unit {0}
 
@@ -93,7 +94,7 @@ pub record MayHandIn {L D C : Type 0} (tells : Bool) (seen : D → Files) (now :
   pub first : ℕ
   pub out : List RowSetData
   pub written : AreWritten first made out
-  pub ends : EndsWith (IsFound v) at.job.want at.job.bound merged.inputs at.job.returned out outputs
+  pub ends : EndsWith (IsFound v) at.job.want at.job merged.inputs out outputs
 
 -- ---- its outputs are written and handed in: they are what its want asks for, and its superblock may go out
 

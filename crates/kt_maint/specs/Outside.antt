@@ -1,8 +1,9 @@
--- A compaction outside the lock: what its pass has between its visits, and what was written meanwhile.
-use Rattle.std.specs.Prelude.{◌≡◌, ◌≢◌, ◌≤◌, ◌<◌, ◌+◌, ◌^◌, ℕ, Bool, true, IsTrue, List, length, map, max, Some, None, Result, Ok, Err, IfOk}
+-- A flush or a compaction outside the lock: what its pass has between its visits, and what was written meanwhile.
+use Rattle.std.specs.Prelude.{◌≡◌, ◌≢◌, ◌≤◌, ◌<◌, ◌+◌, ◌^◌, ℕ, ◌++◌, Bool, true, IsTrue, List, length, map, max, Some, None, Result, Ok, Err, IfOk}
 use Rattle.std.specs.FinMap.Entries.{find}
 use Rattle.kt_base.specs.Causes.{Rose}
 use Rattle.kt_disk.specs.Disk.{Files}
+use Rattle.kt_history.specs.declared.changes.KeyChange.{KeyChange}
 use Rattle.kt_history.specs.History.{Past}
 use Rattle.kt_history.specs.Rows.{key_cmp}
 use Rattle.kt_histlaws.specs.Fitting.{AreSound}
@@ -16,7 +17,7 @@ use Rattle.kt_diskrowset.specs.Data.{held_in}
 use Rattle.kt_files.specs.Reading.{HoldAll}
 use Rattle.kt_merge.specs.Merge.{hists_upto, hists_written, rows_and_changes, AreReadable, AreFaultless, HaveEach, IsOfInput}
 use Rattle.kt_merge.specs.Told.{told_by_all, AreOutputs}
-use Rattle.kt_merge.specs.Late.{AllTellLate}
+use Rattle.kt_merge.specs.Late.{AllTellChanges, AllTellLate}
 use Rattle.kt_outputs.specs.Again.{AreAgain, AllNumbered, AllKeptStand, AllAddLate}
 use Rattle.kt_outputs.specs.Named.{AreShort}
 use Rattle.kt_outputs.specs.Outputs.{meta_in, all_file_numbers, AreThere, AreStable, AreWhole, AreWritten, CountUp, HasLeft}
@@ -26,19 +27,20 @@ use Rattle.kt_storeside.specs.declared.side.Lent.{Lent}
 use Rattle.kt_storeside.specs.Sides.{StoreView}
 use Rattle.kt_pick.specs.declared.rules.Want.{Want}
 use Rattle.kt_pick.specs.declared.rules.Want.TheVariants as want
+use Rattle.kt_engine.specs.declared.again.MemsNow.{MemsNow}
 use Rattle.kt_engine.specs.declared.job.JobInput.{JobInput}
 use Rattle.kt_engine.specs.declared.job.MaintNo.{MaintNo}
 use Rattle.kt_engine.specs.declared.job.MaintNo.TheVariants as no
 use Rattle.kt_engine.specs.declared.upkeep.Stage.TheVariants as stage
 use Rattle.kt_engine.specs.Engines.{EngineView, IsFound}
-use Rattle.kt_engine.specs.Jobs.{JobView, UpkeepView, UpkeepsView, asked, finished, job_of, upkeep_at, without_want}
-use Rattle.kt_engine.specs.JobSteps.{TellPassing, HasInput, AtNewStage}
+use Rattle.kt_engine.specs.Jobs.{JobView, UpkeepView, UpkeepsView, asked, finished, job_of, taken_by, upkeep_at, without_want}
+use Rattle.kt_engine.specs.JobSteps.{TellPassing, HasInput, AtNewStage, IsMerge}
 use Rattle.kt_engine.specs.Logged.{PlanPasses}
 use Rattle.kt_engine.specs.Near.{most_rowsets, most_files}
-use Rattle.kt_engine.specs.Returning.{HasReturned}
-use Rattle.kt_engine.specs.Visits.{PartView, Root, part_in, root_of}
+use Rattle.kt_engine.specs.Returning.{HasReturned, HasRefrozen}
+use Rattle.kt_engine.specs.Visits.{IsVisit, PartView, Root, part_in, root_of}
 use Rattle.kt_maint.specs.Done.{FoundBy, HasGiven}
-use Rattle.kt_maint.specs.Runs.{HasNoDevice, KeepsAsks, LentToWrite, RunsAs}
+use Rattle.kt_maint.specs.Runs.{HasNoDevice, KeepsAsks, LentToWrite, OnlyJob, RunsAs, StandsAs}
 use Rattle.kt_maint.specs.declared.jobs.Start.{Start}
 use Rattle.kt_maint.specs.declared.jobs.Start.TheVariants as start
 use Rattle.kt_maint.specs.declared.tries.Turn.{Turn}
@@ -62,7 +64,7 @@ pub record ReadsWell {L D C : Type 0} (tells : Bool) (root : Root L D C) (input 
   pub faultless : (first : Past) → FoundBy root first → AreFaultless (span_of input) input.inputs
   pub passes : IsTrue tells → (rules : Rules) (first : Past) → HasFoundBy rules root first → PlanPasses rules root.work → TellPassing rules input.bound input.mark input.inputs
 
--- what was read of a compaction: as of the bound and from the job's mark on, all that its disk rowsets have
+-- what was read of a flush or a compaction: as of the bound and from the job's mark on, all that its MemRowSets or its disk rowsets have
 pub record HasRead {L D C : Type 0} (tells : Bool) (n : ℕ) (old new : EngineView L D C) (input : JobInput) : Type 0 where
   pub job : JobView
   pub had : job_of n old.upkeep ≡ Some job
@@ -80,7 +82,7 @@ pub record MayWrite {D : Type 0} (tells : Bool) (seen : D → Files) (out : Outs
 
 -- ---- between the visits
 
--- Between its visits a pass has the store out to write files, and a compaction for this want outside the lock with what was read of it, whose outputs may have rowset numbers from those on that the store has still to give
+-- Between its visits a pass has the store out to write files, and a flush or a compaction for this want outside the lock with what was read of it, whose outputs may have rowset numbers from those on that the store has still to give
 pub record IsAway {L D C : Type 0} (tells : Bool) (seen : D → Files) (n : ℕ) (w : Want) (out : Outside D) (part : PartView L D C) : Type 0 where
   pub log : part.pass.out ≡ None
   pub store : StoreView D
@@ -92,7 +94,7 @@ pub record IsAway {L D C : Type 0} (tells : Bool) (seen : D → Files) (n : ℕ)
   pub job : JobView
   pub own : part.pass.upkeep.job ≡ Some job
   pub at : job.stage ≡ stage.Outside
-  pub want : (job.want ≡ w) × (w ≡ want.Compact job.taken)
+  pub want : (job.want ≡ w) × IsMerge w × (job.taken ≡ taken_by w)
   pub output : job.output ≡ None
   pub inputs : job.inputs ≡ Some out.input.inputs
   pub times : (job.bound ≡ out.input.bound) × (job.mark ≡ out.input.mark)
@@ -125,7 +127,7 @@ pub record HaveFiles {D : Type 0} (tells : Bool) (seen : D → Files) (now : D �
 pub record HasWritten {D : Type 0} (tells : Bool) (seen : D → Files) (now : D → ℕ) (leaves : D → ℕ → Files → Type 0) (faults : D → ℕ) (most : ℕ) (input : JobInput) (went came : Lent D) (result : Result Outputs WriteNo) : Type 0 where
   pub meta : came.meta ≡ went.meta
   pub up : (went.next_rowset ≤ came.next_rowset) × (went.next_file ≤ came.next_file)
-  pub risen : came.next_rowset ≤ went.next_rowset + 2 ^ 32
+  pub risen : came.next_rowset ≤ went.next_rowset + 2 ^ 31
   pub small : came.next_rowset < 2 ^ 64
   pub few_files : came.next_file ≤ max went.next_file most
   pub left : IsTrue tells → HasLeft seen now leaves went.next_file came.next_file went.device came.device
@@ -154,19 +156,20 @@ pub record MayComeHome {D : Type 0} (tells : Bool) (seen : D → Files) (now : D
 
 -- ---- what came later is put in
 
--- REDO files that came to written disk rowsets are written behind them
+-- REDO files that came to written disk rowsets are written behind them, and no rowset number was used
 pub record HaveLateFiles {D : Type 0} (tells : Bool) (seen : D → Files) (now : D → ℕ) (leaves : D → ℕ → Files → Type 0) (went came : Lent D) (late done : List RowSetData) : Type 0 where
   pub again : AreAgain late done
+  pub rowset : came.next_rowset ≡ went.next_rowset
   pub numbered : AllNumbered went.next_file came.next_file late done
   pub holds : IsTrue tells → AllKeptStand (seen came.device) late → HoldAll (seen came.device) (map (meta_in 0) done) (map held_in done)
   pub stable : IsTrue tells → AreStable seen now leaves went.next_file came.next_file came.device
 
--- the store is as it was but for these files, and no rowset number was used
+-- the store is as it was but for files of new numbers, and not too many numbers were used
 pub record HasAdded {D : Type 0} (tells : Bool) (seen : D → Files) (now : D → ℕ) (leaves : D → ℕ → Files → Type 0) (faults : D → ℕ) (most : ℕ) (went came : Lent D) (result : Result Outputs WriteNo) : Type 0 where
   pub meta : came.meta ≡ went.meta
+  pub up : (went.next_rowset ≤ came.next_rowset) × (went.next_file ≤ came.next_file)
+  pub risen : came.next_rowset ≤ went.next_rowset + 2 ^ 31
   pub few_files : came.next_file ≤ max went.next_file most
-  pub rowset : came.next_rowset ≡ went.next_rowset
-  pub up : went.next_file ≤ came.next_file
   pub left : IsTrue tells → HasLeft seen now leaves went.next_file came.next_file went.device came.device
   pub faults_rise : faults went.device ≤ faults came.device
   pub rose : result ≡ Err write_no.Fault → Rose (faults went.device) (faults came.device)
@@ -179,13 +182,52 @@ pub record AreWithLate {D : Type 0} (tells : Bool) (seen : D → Files) (now : D
   pub whole : AreWhole late
   pub files : HaveLateFiles tells seen now leaves went came late done
 
--- and these are the disk rowsets of a job that is back, as they are now
-pub record IsPutIn {L D C : Type 0} (tells : Bool) (seen : D → Files) (now : D → ℕ) (leaves : D → ℕ → Files → Type 0) (n bound : ℕ) (went came : Lent D) (outputs done : List RowSetData) (old new : EngineView L D C) : Type 0 where
-  pub job : JobView
-  pub had : job_of n old.upkeep ≡ Some job
+-- and these are the disk rowsets of a compaction that is back, as they are now
+pub record IsPutIn {L D C : Type 0} (tells : Bool) (seen : D → Files) (now : D → ℕ) (leaves : D → ℕ → Files → Type 0) (n bound : ℕ) (went came : Lent D) (job : JobView) (outputs done : List RowSetData) (old new : EngineView L D C) : Type 0 where
   pub list : List RowSetData
   pub back : HasReturned tells n job list old new
   pub with_late : AreWithLate tells seen now leaves bound went came list outputs done
+
+-- outputs have what lists of changes have above the bound, each that of its own rows, in files that are written
+pub record AreWithChanges {D : Type 0} (tells : Bool) (seen : D → Files) (now : D → ℕ) (leaves : D → ℕ → Files → Type 0) (bound : ℕ) (went came : Lent D) (lists : List (List KeyChange)) (outputs done : List RowSetData) : Type 0 where
+  pub late : List RowSetData
+  pub told : AllTellChanges bound lists outputs late
+  pub adds : AllAddLate outputs late
+  pub whole : AreWhole late
+  pub files : HaveLateFiles tells seen now leaves went came late done
+
+-- and behind them come disk rowsets of what the others have, merged and written
+pub record AreWithSince {D : Type 0} (tells : Bool) (seen : D → Files) (now : D → ℕ) (leaves : D → ℕ → Files → Type 0) (faults : D → ℕ) (bound most : ℕ) (went came : Lent D) (mems : MemsNow) (outputs done : List RowSetData) : Type 0 where
+  pub mid : Lent D
+  pub firsts : Outputs
+  pub added : HasAdded tells seen now leaves faults most went mid (Ok firsts)
+  pub changed : AreWithChanges tells seen now leaves bound went mid mems.now outputs firsts.rowsets
+  pub more : Outputs
+  pub written : HasWritten tells seen now leaves faults most mems.since mid came (Ok more)
+  pub small : mems.since.mark < 2 ^ 64
+  pub both : done ≡ firsts.rowsets ++ more.rowsets
+
+-- and this is what the MemRowSets have now of a flush that is back
+pub record IsPutSince {L D C : Type 0} (tells : Bool) (seen : D → Files) (now : D → ℕ) (leaves : D → ℕ → Files → Type 0) (faults : D → ℕ) (n bound most : ℕ) (went came : Lent D) (job : JobView) (outputs done : List RowSetData) (old new : EngineView L D C) : Type 0 where
+  pub mems : MemsNow
+  pub back : HasRefrozen tells n job mems old new
+  pub with_since : AreWithSince tells seen now leaves faults bound most went came mems outputs done
+
+-- what came meanwhile is put in, by the want of the job
+abbrev pub IsPutBy : {L D C : Type 0} → Want → Bool → (D → Files) → (D → ℕ) → (D → ℕ → Files → Type 0) → (D → ℕ) → ℕ → ℕ → ℕ → Lent D → Lent D → JobView → List RowSetData → List RowSetData → EngineView L D C → EngineView L D C → Type 0
+IsPutBy want.Flush tells seen now leaves faults n bound most went came job outputs done old new = IsPutSince tells seen now leaves faults n bound most went came job outputs done old new
+IsPutBy (want.Compact taken) tells seen now leaves faults n bound most went came job outputs done old new = IsPutIn tells seen now leaves n bound went came job outputs done old new
+IsPutBy _ tells seen now leaves faults n bound most went came job outputs done old new = ⊥
+
+-- The job of a pass is back, in a step without a line: nothing but what a flush freezes and this pass's maintenance has changed
+pub record IsBack {L D C : Type 0} (n : ℕ) (old new : EngineView L D C) : Type 0 where
+  pub visit : IsVisit n old new
+  pub still : StandsAs n old new
+  pub beside : new ≡ record old { tablet = new.tablet; upkeep = new.upkeep }
+  pub line : new.tablet.core.trail ≡ old.tablet.core.trail
+  pub goes : new.tablet.core.stopped ≡ old.tablet.core.stopped
+  pub aloft : new.tablet.core.aloft ≡ old.tablet.core.aloft
+  pub own : OnlyJob n old.upkeep new.upkeep
 
 -- ---- its end
 
@@ -226,7 +268,7 @@ EndsAs n w old new (Ok done) = HasEnded n w old new × HasNoDevice n new
 EndsAs n w old new (Err no.Memory) = HasNoDevice n new × (job_of n new.upkeep ≡ None)
 EndsAs n w old new (Err no.Stopped) = (new.tablet.core.stopped ≡ true) × HasNoDevice n new
 
--- how the compaction of a pass, which has begun, left the lock: it is outside, or is given up
+-- how the flush or the compaction of a pass, which has begun, left the lock: it is outside, or is given up
 abbrev pub LeftAs : {L D C : Type 0} → Bool → (D → Files) → ℕ → Want → EngineView L D C → EngineView L D C → Start Turn D → Type 0
 LeftAs tells seen n w old new (start.Over t) = (t ≡ turn.Memory) × HasNoDevice n new × (job_of n new.upkeep ≡ None)
 LeftAs tells seen n w old new (start.Out out) = IsAway tells seen n w out (part_in new n) × KeepsAsks n old.upkeep new.upkeep

@@ -1,7 +1,5 @@
 -- What the steps of a job in one visit do to the engine.
 use Rattle.std.specs.Prelude.{◌≡◌, ◌≢◌, ◌≤◌, ◌<◌, ◌⊎◌, ◌+◌, ◌==◌, ◌^◌, ◌-◌, ℕ, is_some, true, false, Bool, IsTrue, List, [], ◌∷◌, ◌++◌, length, map, Option, Some, None}
-use Rattle.kt_disk.specs.Disk.{Files}
-use Rattle.kt_history.specs.History.{Past}
 use Rattle.kt_history.specs.declared.event.Event.{Event}
 use Rattle.kt_history.specs.declared.event.Event.TheVariants as event
 use Rattle.kt_histlaws.specs.Events.{halted}
@@ -10,25 +8,20 @@ use Rattle.kt_tablet.specs.Views.{View, place_at}
 use Rattle.kt_tablet.specs.Jobs.{next_dms}
 use Rattle.kt_super.specs.declared.meta.Meta.{Meta}
 use Rattle.kt_content.specs.Flushes.{AreFrom}
-use Rattle.kt_content.specs.Rules.{Rules, RowsetsPass}
 use Rattle.kt_diskrowset.specs.declared.data.RowSetData.{RowSetData}
 use Rattle.kt_diskrowset.specs.Data.{files_in, held_in}
-use Rattle.kt_files.specs.Reading.{HoldAll}
-use Rattle.kt_outputs.specs.Outputs.{meta_in, all_file_numbers, CountUp, AreStable, AreWhole, AreWritten}
-use Rattle.kt_outputs.specs.Named.{AreShort}
+use Rattle.kt_outputs.specs.Outputs.{meta_in}
 use Rattle.kt_storeside.specs.declared.side.Lent.{Lent}
 use Rattle.kt_storeside.specs.Sides.{StoreView}
 use Rattle.kt_pick.specs.declared.rules.Want.{Want}
-use Rattle.kt_engine.specs.Engines.{EngineView, IsFound, IsContent}
-use Rattle.kt_engine.specs.Logged.{PlanPasses}
+use Rattle.kt_engine.specs.Engines.{EngineView, IsFound}
 use Rattle.kt_engine.specs.Visits.{IsVisit}
 use Rattle.kt_engine.specs.declared.upkeep.Stage.{Stage}
 use Rattle.kt_engine.specs.declared.upkeep.Stage.TheVariants as stage
 use Rattle.kt_engine.specs.declared.job.MaintNo.{MaintNo}
 use Rattle.kt_engine.specs.declared.job.MaintNo.TheVariants as no
-use Rattle.kt_engine.specs.Jobs.{JobView, UpkeepView, UpkeepsView, finished, IsUnpublished, asked_for_nothing, without_want, job_of, upkeep_at, takes_of, more}
-use Rattle.kt_stores.specs.Takes.{Takes}
-use Rattle.kt_engine.specs.JobSteps.{IsMerge, TakesInputs, HoldInputs}
+use Rattle.kt_engine.specs.Jobs.{JobView, UpkeepView, UpkeepsView, finished, IsUnpublished, asked_for_nothing, without_want, job_of, upkeep_at, more}
+use Rattle.kt_engine.specs.JobSteps.{IsMerge, TakesInputs}
 use Rattle.kt_maint.specs.Done.{HasGiven}
 use Rattle.kt_maint.specs.declared.ready.Ready.{Ready}
 use Rattle.kt_maint.specs.declared.ready.Ready.TheVariants as ready
@@ -36,8 +29,12 @@ use Rattle.kt_maint.specs.declared.tries.Turn.{Turn}
 use Rattle.kt_maint.specs.declared.tries.Turn.TheVariants as turn
 
 -- of this pass's maintenance only the job has changed
+abbrev pub OnlyJob : ℕ → UpkeepsView → UpkeepsView → Type 0
+OnlyJob n old new = upkeep_at n new.passes ≡ record (upkeep_at n old.passes) { job = job_of n new }
+
+-- and no job has begun
 pub record KeepsAsks (n : ℕ) (old new : UpkeepsView) : Type 0 where
-  pub own : upkeep_at n new.passes ≡ record (upkeep_at n old.passes) { job = job_of n new }
+  pub own : OnlyJob n old new
   pub begun : new.begun ≡ old.begun
 
 -- no line came, or a `stop` line alone
@@ -112,37 +109,11 @@ pub record JobIsAt {L D C : Type 0} (v : EngineView L D C) (n : ℕ) (s : Stage)
   pub takes : TakesInputs v job
   pub as_many : length v.tablet.names ≡ length v.tablet.core.stores
 
--- the job of a pass has come further: it is for the same want, and takes the same
-pub record GoesOn (n : ℕ) (old new : UpkeepsView) : Type 0 where
-  pub was : JobView
-  pub had : job_of n old ≡ Some was
-  pub job : JobView
-  pub has : job_of n new ≡ Some job
-  pub want : job.want ≡ was.want
-  pub takes : takes_of job ≡ takes_of was
-
 pub record MayAbandon {L D C : Type 0} (v : EngineView L D C) (n : ℕ) : Type 0 where
   pub job : JobView
   pub has : job_of n v.upkeep ≡ Some job
   pub early : IsUnpublished job.stage
   pub free : v.upkeep.publishing ≡ None
-
--- What merging gives: disk rowsets that hold what the job takes for each past that opening found, and pass the rules of the table
-pub record HoldsMerged {L D C : Type 0} (tells : Bool) (v : EngineView L D C) (t : Takes) (outputs : List RowSetData) : Type 0 where
-  pub whole : AreWhole outputs
-  pub holds : (first : Past) → IsFound v first → HoldInputs v.tablet t (map files_in outputs)
-  pub passes : IsTrue tells → (rules : Rules) (first : Past) → IsContent rules v first → PlanPasses rules v.tablet.core.work → RowsetsPass rules (map files_in outputs)
-
--- The outputs have their numbers and their files, which this turn of the store used
-pub record HasFiles {D : Type 0} (tells : Bool) (seen : D → Files) (now : D → ℕ) (leaves : D → ℕ → Files → Type 0) (old new : StoreView D) (outputs out : List RowSetData) : Type 0 where
-  pub written : AreWritten old.next_rowset outputs out
-  pub rowset : new.next_rowset ≡ old.next_rowset + length outputs
-  pub small : new.next_rowset < 2 ^ 64
-  pub numbered : CountUp old.next_file new.next_file (all_file_numbers out)
-  pub short : AreShort out
-  pub holds : IsTrue tells → HoldAll (seen new.known) (map (meta_in 0) out) (map held_in out)
-  pub stable : IsTrue tells → AreStable seen now leaves old.next_file new.next_file new.known
-  pub meta : new.meta ≡ old.meta
 
 -- ---- a turn of the store
 

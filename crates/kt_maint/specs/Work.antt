@@ -19,12 +19,12 @@ pub record Picks {L D C : Type 0} (v : EngineView L D C) (picked : Option Want) 
   pub told : AreStats v stats
   pub wanted_is : picked ≡ wanted stats
 
--- what a visit left of the devices: its pass has neither, or a compaction is outside with the store
+-- what a visit left of the devices: its pass has neither, or a job is outside with the store
 abbrev pub TookAs : {T L D C : Type 0} → Bool → (D → Files) → ℕ → EngineView L D C → Start T D → Type 0
 TookAs tells seen n v (start.Over t) = HasNoDevice n v
 TookAs tells seen n v (start.Out out) = (w : Want) × IsAway tells seen n w out (part_in v n)
 
--- and of the job of a pass that had none: it has none, unless the tablet has stopped, or a compaction is outside
+-- and of the job of a pass that had none: it has none, unless the tablet has stopped, or its job is outside
 abbrev pub LeftNone : {T L D C : Type 0} → ℕ → EngineView L D C → EngineView L D C → Start T D → Type 0
 LeftNone n old new (start.Over t) = job_of n old.upkeep ≡ None → (job_of n new.upkeep ≡ None) ⊎ (new.tablet.core.stopped ≡ true)
 LeftNone n old new (start.Out out) = Unit {0}

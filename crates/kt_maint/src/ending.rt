@@ -1,4 +1,4 @@
-//! The last visit of a compaction that was outside the lock.
+//! The last visit of a flush or a compaction that was outside the lock.
 ghost use Rattle.std.specs.Prelude.{◌≡◌, ◌≢◌, [], false, true, None, Some, Ok, Err, OnOk};
 ghost use Rattle.kt_base.specs.Causes.{Rose};
 ghost use Rattle.kt_pick.specs.declared.rules.Want.{Want};
@@ -18,9 +18,13 @@ use kt_base::Clock;
 use kt_disk::Disk;
 use kt_diskrowset::Outputs;
 use kt_engine::{Broken, Engine, MaintNo};
-use kt_joblaws::laws::{late_law, outputs_pass_law, passing_law, rise_law, written_law};
+use kt_joblaws::laws::{
+    beside_law, late_law, outputs_pass_law, passing_law, rise_law, written_law,
+};
 use kt_outputs::WriteNo;
-use kt_outputs::laws::{again_law, behind_law, fewer_law, stand_law};
+use kt_outputs::laws::{
+    again_law, behind_law, beside_law as files_beside_law, fewer_law, stand_law,
+};
 use kt_storeside::Lent;
 use std::alloc::Global;
 
@@ -143,7 +147,7 @@ pub fn close<L: Disk, D: Disk + Drop, C: Clock>(
     }
 }
 
-// Hands in the outputs of this pass's compaction, which are written, and publishes its superblock.
+// Hands in the outputs of this pass's job, which are written, and publishes its superblock.
 fn hand_over<L: Disk, D: Disk + Drop, C: Clock>(
     alloc: Global,
     engine: &mut Engine<L, D, C>,
@@ -219,8 +223,11 @@ fn end_settled<L: Disk, D: Disk + Drop, C: Clock>(
     behind_law();
     fewer_law();
     stand_law();
+    beside_law();
+    files_beside_law();
     match put_late(alloc, engine, by, bound, most, outputs, &mut lent) {
         Ok(done) => {
+            is_within(lent.next_rowset);
             take_home(engine, by, lent);
             end_home(alloc, engine, by, done)
         }
@@ -262,7 +269,7 @@ fn end_written<L: Disk, D: Disk + Drop, C: Clock>(
     }
 }
 
-/// The last visit of the compaction of this pass, with what was written outside, while nothing flies and the log is at home: what came meanwhile is put in, and
+/// The last visit of the flush or the compaction of this pass, with what was written outside, while nothing flies and the log is at home: what came meanwhile is put in, and
 /// its superblock is published. After a fault the tablet is stopped, and for want of memory the job is given up.
 pub fn end_now<L: Disk, D: Disk + Drop, C: Clock>(
     alloc: Global,

@@ -1,7 +1,7 @@
 //! A job from its begin on: all wants pass the same steps, and differ in what they write and in whether they do it in one visit.
-ghost use Rattle.std.specs.Prelude.{◌≡◌, ◌≢◌, true, List, ℕ, None, OnOk, IfErr, Err};
+ghost use Rattle.std.specs.Prelude.{◌≡◌, ◌≢◌, true, None, OnOk, IfErr, Err};
 ghost use Rattle.kt_engine.specs.Visits.{IsVisit};
-ghost use Rattle.kt_pick.specs.declared.rules.Want.TheVariants as want;
+ghost use Rattle.kt_pick.specs.declared.rules.Want.{Want as WantSpec};
 ghost use Rattle.kt_maint.specs.Runs.{KeepsAsks, IsQuiet, IsReady, RunsAs, HasNoDevice, MayAbandon, StandsAs};
 ghost use Rattle.kt_maint.specs.JobRuns.{StaysInside, BeginsBy, HasBegunNow, IsWrittenBy, MayEnd, MergeBegins};
 ghost use Rattle.kt_maint.specs.Outside.{EndsAs, StartsAs, LeftAs};
@@ -9,7 +9,6 @@ ghost use Rattle.kt_maint.specs.Outside.{EndsAs, StartsAs, LeftAs};
 use crate::deltas::write_made;
 use crate::ending::{close, let_go};
 use crate::leaving::go_out;
-use crate::merging::write_flush;
 use crate::outside::Outside;
 use crate::publishing::publish_job;
 use crate::ready::{Ready, make_ready};
@@ -25,7 +24,7 @@ use std::alloc::Global;
 pub enum Start<T, D> {
     /// It is over so.
     Over(T),
-    /// A compaction goes on outside the lock.
+    /// A flush or a compaction goes on outside the lock.
     Out(Outside<D>),
 }
 
@@ -49,12 +48,11 @@ fn make_outputs<L: Disk, D: Disk + Drop, C: Clock>(
     ensures home { engine.new.store.holder ≡ None }
 {
     match want {
-        Want::Flush => write_flush(alloc, engine, by),
         Want::FlushDeltas(_) | Want::Minor(_) | Want::Major(_) => {
             write_made(alloc, engine, by, want)
         }
-        // It goes outside.
-        Want::Compact(_) => unreachable!(),
+        // They go outside.
+        Want::Flush | Want::Compact(_) => unreachable!(),
     }
 }
 
@@ -99,17 +97,17 @@ fn run_inside<L: Disk, D: Disk + Drop, C: Clock>(
     close(engine, by, carried)
 }
 
-// The compaction of this pass, which has begun, goes outside, or is given up for want of memory.
+// The flush or the compaction of this pass, which has begun, goes outside, or is given up for want of memory.
 fn leave_now<L: Disk, D: Disk + Drop, C: Clock>(
     alloc: Global,
     engine: &mut Engine<L, D, C>,
     by: u32,
 ) -> Start<Turn, D>
-    requires begun { (taken : List ℕ) × MergeBegins engine.old by (want.Compact taken) }
+    requires begun { (want : WantSpec) × MergeBegins engine.old by want }
     requires calm { IsReady engine.old }
     ensures visit { IsVisit by engine.old engine.new }
     ensures still { StandsAs by engine.old engine.new }
-    ensures left { (taken : List ℕ) → MergeBegins engine.old by (want.Compact taken) → LeftAs D.tells D.seen by (want.Compact taken) engine.old engine.new result }
+    ensures left { (want : WantSpec) → MergeBegins engine.old by want → LeftAs D.tells D.seen by want engine.old engine.new result }
 {
     match go_out(alloc, engine, by) {
         Ok(out) => Start::Out(out),
@@ -152,7 +150,7 @@ fn begin_now<L: Disk, D: Disk + Drop, C: Clock>(
     }
 }
 
-/// Tries a job in this visit: a compaction goes on outside the lock, and the others are run to their end. Where something is under way nothing is begun, and the
+/// Tries a job in this visit: a flush or a compaction goes on outside the lock, and the others are run to their end. Where something is under way nothing is begun, and the
 /// log is at home with less to append. A pass that has a job begins no other and is answered as for want of memory.
 pub fn start_now<L: Disk, D: Disk + Drop, C: Clock>(
     alloc: Global,
@@ -170,8 +168,8 @@ pub fn start_now<L: Disk, D: Disk + Drop, C: Clock>(
         Err(turn) => return Start::Over(turn),
     }
     match want {
-        Want::Compact(_) => leave_now(alloc, engine, by),
-        Want::Flush | Want::FlushDeltas(_) | Want::Minor(_) | Want::Major(_) => {
+        Want::Flush | Want::Compact(_) => leave_now(alloc, engine, by),
+        Want::FlushDeltas(_) | Want::Minor(_) | Want::Major(_) => {
             match run_inside(alloc, engine, by, want) {
                 Ok(()) => Start::Over(Turn::Done),
                 Err(no) => Start::Over(Turn::from(no)),

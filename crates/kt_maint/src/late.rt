@@ -1,19 +1,21 @@
-//! What came to the disk rowsets of a compaction while it was outside the lock, put into what it wrote.
-ghost use Rattle.std.specs.Prelude.{◌≡◌, ◌≤◌, [], ℕ, false, None, Ok, IsTrue, IfOk};
+//! What came to what a flush or a compaction takes while it was outside the lock, put into what it wrote.
+ghost use Rattle.std.specs.Prelude.{◌≡◌, ◌≤◌, [], ℕ, false, None, Some, Ok, IsTrue, IfOk};
 ghost use Rattle.std.specs.List.{AllByRecursion};
 ghost use Rattle.kt_outputs.specs.Again.{AllAddLate};
 ghost use Rattle.kt_outputs.specs.Outputs.{AreWhole, IsWhole};
 ghost use Rattle.kt_merge.specs.Late.{AllTellLate, TellsLate};
 ghost use Rattle.kt_merge.specs.Rewriting.{AddsRedo};
 ghost use Rattle.kt_diskrowset.specs.Data.{held_in};
+ghost use Rattle.kt_engine.specs.Jobs.{JobView, job_of};
 ghost use Rattle.kt_engine.specs.Visits.{part_in};
-ghost use Rattle.kt_maint.specs.Runs.{IsQuiet, MayAbandon};
-ghost use Rattle.kt_maint.specs.Outside.{AreWithLate, HasCome, HasAdded, HaveLateFiles, IsPutIn};
+ghost use Rattle.kt_maint.specs.Runs.{MayAbandon};
+ghost use Rattle.kt_maint.specs.Outside.{AreWithLate, HasCome, HasAdded, HaveLateFiles, IsBack, IsPutBy};
 
+use crate::since::write_since;
 use kt_base::{Clock, NoMemory};
 use kt_disk::Disk;
 use kt_diskrowset::{Outputs, RowSetData, RowSetList};
-use kt_engine::{Engine, JobWait};
+use kt_engine::{Engine, JobWait, Returned};
 use kt_merge::with_late;
 use kt_outputs::{NextNumbers, WriteNo, is_whole, write_again};
 use kt_storeside::Lent;
@@ -62,8 +64,8 @@ fn late_outputs(
     })
 }
 
-// Writes the REDO files that came to the outputs to the store.
-fn write_late<D: Disk + Drop>(
+/// Writes the REDO files that came to the outputs to the store.
+pub fn write_late<D: Disk + Drop>(
     alloc: Global,
     lent: &mut Lent<D>,
     most: u64,
@@ -105,8 +107,8 @@ fn write_with_late<D: Disk + Drop>(
     }
 }
 
-/// The job of this pass goes on in this visit, while nothing flies: its outputs get what its disk rowsets have now and had not as they were read, and that is
-/// written.
+/// The job of this pass goes on in this visit, while nothing flies: its outputs get what the stores that it takes have now and had not as they were read, and that is
+/// written. A flush freezes once more, and writes what came to the other MemRowSets meanwhile behind.
 pub fn put_late<L: Disk, D: Disk + Drop, C: Clock>(
     alloc: Global,
     engine: &mut Engine<L, D, C>,
@@ -119,16 +121,18 @@ pub fn put_late<L: Disk, D: Disk + Drop, C: Clock>(
     requires come { HasCome D.tells D.seen D.now D.leaves D.faults by bound most lent.old (Ok outputs) (part_in engine.old by) }
     requires goes { engine.old.tablet.core.stopped ≡ false }
     requires calm { engine.old.tablet.core.aloft ≡ [] }
-    ensures quiet { IsQuiet by engine.old engine.new }
-    ensures beside { engine.new ≡ record engine.old { upkeep = engine.new.upkeep } }
+    ensures returned { IsBack by engine.old engine.new }
     ensures added { HasAdded D.tells D.seen D.now D.leaves D.faults most lent.old lent.new result }
-    ensures put { IfOk result (λ done. IsPutIn D.tells D.seen D.now D.leaves by bound lent.old lent.new outputs.rowsets done.rowsets engine.old engine.new) }
+    ensures put { IfOk result (λ done. (job : JobView) → job_of by engine.old.upkeep ≡ Some job → IsPutBy job.want D.tells D.seen D.now D.leaves D.faults by bound most lent.old lent.new job outputs.rowsets done.rowsets engine.old engine.new) }
     ensures back { MayAbandon engine.new by }
 {
     // No superblock goes out while the job is outside, and no file has a number that is still to be given.
     engine.standing();
     match engine.job_return(alloc, by) {
-        Ok(now) => write_with_late(alloc, lent, most, outputs, now.as_slice(), bound),
+        Ok(Returned::Rowsets(now)) => {
+            write_with_late(alloc, lent, most, outputs, now.as_slice(), bound)
+        }
+        Ok(Returned::Mems(mems)) => write_since(alloc, lent, most, outputs, mems, bound),
         Err(JobWait::Memory) => Err(WriteNo::Memory),
         // The tablet goes on, and nothing flies.
         Err(JobWait::Stopped) => unreachable!(),

@@ -1,8 +1,8 @@
-//! The first visit of a compaction: it reads what it takes, and leaves the lock with that and the store.
-ghost use Rattle.std.specs.Prelude.{◌≡◌, List, ℕ, None, IfOk, IsErr};
+//! The first visit of a flush or a compaction: it reads what it takes, and leaves the lock with that and the store.
+ghost use Rattle.std.specs.Prelude.{◌≡◌, None, IfOk, IsErr};
 ghost use Rattle.kt_engine.specs.Visits.{part_in};
 ghost use Rattle.kt_engine.specs.declared.upkeep.Stage.TheVariants as stage;
-ghost use Rattle.kt_pick.specs.declared.rules.Want.TheVariants as want;
+ghost use Rattle.kt_pick.specs.declared.rules.Want.{Want};
 ghost use Rattle.kt_maint.specs.Runs.{IsQuiet, IsReady, JobIsAt, MayAbandon};
 ghost use Rattle.kt_maint.specs.JobRuns.{MergeBegins};
 ghost use Rattle.kt_maint.specs.Outside.{HasRead, IsAway};
@@ -14,7 +14,7 @@ use kt_disk::Disk;
 use kt_engine::{Engine, JobInput, JobWait, Purpose, StoreNo};
 use std::alloc::Global;
 
-// Reads the disk rowsets of the compaction of this pass, which has begun.
+// Reads what the flush or the compaction of this pass takes, which has begun.
 fn read<L: Disk, D: Disk + Drop, C: Clock>(
     alloc: Global,
     engine: &mut Engine<L, D, C>,
@@ -36,16 +36,16 @@ fn read<L: Disk, D: Disk + Drop, C: Clock>(
     }
 }
 
-/// The compaction of this pass, which has begun, goes on outside the lock.
+/// The flush or the compaction of this pass, which has begun, goes on outside the lock.
 pub fn go_out<L: Disk, D: Disk + Drop, C: Clock>(
     alloc: Global,
     engine: &mut Engine<L, D, C>,
     by: u32,
 ) -> Result<Outside<D>, NoMemory>
-    requires begun { (taken : List ℕ) × MergeBegins engine.old by (want.Compact taken) }
+    requires begun { (want : Want) × MergeBegins engine.old by want }
     requires calm { IsReady engine.old }
     ensures quiet { IsQuiet by engine.old engine.new }
-    ensures away { IfOk result (λ out. (taken : List ℕ) → MergeBegins engine.old by (want.Compact taken) → IsAway D.tells D.seen by (want.Compact taken) out (part_in engine.new by)) }
+    ensures away { IfOk result (λ out. (want : Want) → MergeBegins engine.old by want → IsAway D.tells D.seen by want out (part_in engine.new by)) }
     ensures memory { IsErr result → MayAbandon engine.new by }
     ensures home { IsErr result → engine.new.store.holder ≡ None }
 {

@@ -2,9 +2,10 @@
 //!
 //! For the layer above: each `run_` call does one job for its want, or tells that there is nothing to do, and shows nothing of it: the tablet has the
 //! same rows at each time from its mark on. `run_chore` does all that a command asks for. A job is run in one visit of the lock, while nothing flies and no
-//! record waits for the log, and its device calls are made inside that visit. A compaction takes two: in the first it reads its disk rowsets and takes the
-//! store with it; it merges and writes with the lock free; and in the second, while nothing flies, it puts what came meanwhile into its outputs and publishes.
-//! The gate of the run is called outside the lock: once what a compaction writes there is written, and once a job is done. The points of a job in one visit are
+//! record waits for the log, and its device calls are made inside that visit. A flush or a compaction takes two: in the first it reads what it takes and has the
+//! store with it; it merges and writes with the lock free; and in the second, while nothing flies, it puts what came meanwhile into its outputs and publishes. A flush
+//! freezes once more then, and writes what came to the MemRowSet that took inserts meanwhile too.
+//! The gate of the run is called outside the lock: once what such a job writes there is written, and once a job is done. The points of a job in one visit are
 //! told behind that visit.
 //! It stands on kt_engine for the events of a job, on kt_merge for what is written, and on kt_files and kt_storeside for the files and the superblock.
 #![tactic(auto)]
@@ -16,7 +17,6 @@ mod handing;
 pub mod jobs;
 mod late;
 mod leaving;
-pub mod merging;
 mod numbers;
 pub mod outside;
 mod points;
@@ -24,9 +24,9 @@ mod publishing;
 mod ready;
 mod rewriting;
 pub mod run;
+mod since;
 pub mod tries;
 pub mod work;
-mod writing;
 
 pub use chore::run_chore;
 pub use run::{Ran, run_compact, run_dms_flush, run_flush, run_major, run_minor};

@@ -1,4 +1,4 @@
-//! What a compaction does outside the lock: it merges what was read, and writes that to the store's device.
+//! What a flush or a compaction does outside the lock: it merges what was read, and writes that to the store's device.
 ghost use Rattle.std.specs.Prelude.{◌≡◌, ◌≤◌, ◌<◌, ◌^◌, None, IsTrue, ℕ, length};
 ghost use Rattle.kt_engine.specs.declared.job.JobInput.{JobInput as InputSpec};
 ghost use Rattle.kt_merge.specs.Merge.{AreReadable, rows_and_changes};
@@ -14,10 +14,10 @@ use kt_outputs::{NextNumbers, WriteNo, write_outputs};
 use kt_storeside::Lent;
 use std::alloc::Global;
 
-// More disk rowsets than these no job writes.
-const MOST_OUTPUTS: usize = 1 << 32;
+// More disk rowsets than these no job writes at once.
+const MOST_OUTPUTS: usize = 1 << 31;
 
-/// What a compaction has outside the lock: what was read of its disk rowsets, the first file number that its turn may not give, and the store.
+/// What a flush or a compaction has outside the lock: what was read of what it takes, the first file number that its turn may not give, and the store.
 #[derive(Drop)]
 pub struct Outside<D> {
     pub input: JobInput,
@@ -43,7 +43,7 @@ fn write_merged<D: Disk + Drop>(
 ) -> Result<Outputs, WriteNo>
     requires vacant { IsTrue D.tells → (n : ℕ) → lent.old.next_file ≤ n → D.seen lent.old.device n ≡ None }
     requires apart { 3 ≤ lent.old.next_file }
-    requires few { length merged.now.rowsets ≤ 2 ^ 32 }
+    requires few { length merged.now.rowsets ≤ 2 ^ 31 }
     ensures { (input : InputSpec) → IsMergedOf input merged.now.rowsets → HasWritten D.tells D.seen D.now D.leaves D.faults most input lent.old lent.new result }
 {
     let mut next = NextNumbers {
@@ -57,8 +57,8 @@ fn write_merged<D: Disk + Drop>(
     written
 }
 
-// Merges what was read and writes it.
-fn merge_and_write<D: Disk + Drop>(
+/// Merges what was read and writes it.
+pub(crate) fn merge_and_write<D: Disk + Drop>(
     alloc: Global,
     input: &JobInput,
     lent: &mut Lent<D>,
@@ -82,7 +82,7 @@ fn merge_and_write<D: Disk + Drop>(
     write_merged(alloc, lent, most, &merged)
 }
 
-/// Merges what a compaction took outside the lock and writes it to the store, while visits go on.
+/// Merges what a flush or a compaction took outside the lock and writes it to the store, while visits go on.
 pub fn write_outside<D: Disk + Drop>(alloc: Global, out: Outside<D>) -> Outcome<D>
     requires may { MayWrite D.tells D.seen out }
     ensures bound { (result.bound ≡ out.input.bound) × (result.most ≡ out.most) }

@@ -1,4 +1,4 @@
-//! Calls for one job, each in a visit of the lock in which nothing is under way, and a compaction in two.
+//! Calls for one job, each in a visit of the lock in which nothing is under way, and a flush or a compaction in two.
 ghost use Rattle.std.specs.Prelude.{◌≡◌, ℕ, false, [], None, Some, Ok, OnOk};
 ghost use Rattle.kt_seatlock.specs.Passes.{number, seen, part, got, MayEnter, IsBack, IsSamePass, IsAsFull};
 ghost use Rattle.kt_pick.specs.declared.rules.Want.TheVariants as want;
@@ -91,7 +91,7 @@ fn enter_quiet<L: Disk, D: Disk + Drop, C: Clock, R: Wait>(
     unreachable!()
 }
 
-/// The last visit of a compaction of this pass that was outside the lock, with what was written there.
+/// The last visit of a flush or a compaction of this pass that was outside the lock, with what was written there.
 pub fn end_job<L: Disk, D: Disk + Drop, C: Clock, R: Wait>(
     rt: &R,
     alloc: Global,
@@ -115,7 +115,7 @@ pub fn end_job<L: Disk, D: Disk + Drop, C: Clock, R: Wait>(
     ended
 }
 
-/// What a compaction of this pass does outside the lock, and its last visit. The gate is called behind either, for the job of that number.
+/// What a flush or a compaction of this pass does outside the lock, and its last visit. The gate is called behind either, for the job of that number.
 pub fn end_outside<L: Disk, D: Disk + Drop, C: Clock, R: Wait, G: Gate>(
     rt: &R,
     alloc: Global,
@@ -151,7 +151,7 @@ fn answer(ended: Result<(), MaintNo>) -> Result<Ran, MaintNo>
     }
 }
 
-/// Runs a job for a want: a compaction in two visits, and the others in one. It waits until nothing is under way. For want of memory nothing is changed but that the rows in memory are frozen. A pass that has a job
+/// Runs a job for a want: a flush or a compaction in two visits, and the others in one. It waits until nothing is under way. For want of memory nothing is changed but that the rows in memory are frozen. A pass that has a job
 /// is answered as for want of memory. The gate is called at the points of the job, outside the lock.
 pub fn run_job<L: Disk, D: Disk + Drop, C: Clock, R: Wait, G: Gate>(
     rt: &R,

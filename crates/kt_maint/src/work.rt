@@ -1,4 +1,4 @@
-//! Background workers: each picks a job and runs it, in the visit in which it picked it or, a compaction, in that one and one more, and rests where there is none.
+//! Background workers: each picks a job and runs it, in the visit in which it picked it or, a flush or a compaction, in that one and one more, and rests where there is none.
 ghost use Rattle.std.specs.Prelude.{◌≡◌, ◌≢◌, ◌⊎◌, ℕ, false, true, IfOk};
 ghost use Rattle.kt_seatlock.specs.Passes.{number, seen, part, MayEnter, IsBack, IsPassOf, IsOutside, IsSame};
 ghost use Rattle.kt_engine.specs.Calls.{SeesOthers, HasNoDevice, StandsStill};
@@ -253,7 +253,7 @@ fn finish<L: Disk, D: Disk + Drop, C: Clock, R: Wait, G: Gate>(
     }
 }
 
-// One visit of a worker, and a rest behind it where it ran no job, or the rest of a compaction. Where it changed nothing it wakes nobody who rests.
+// One visit of a worker, and a rest behind it where it ran no job, or the rest of a job that went outside. Where it changed nothing it wakes nobody who rests.
 fn take_step<L: Disk, D: Disk + Drop, C: Clock, R: Wait, G: Gate>(
     rt: &R,
     alloc: Global,

@@ -40,7 +40,7 @@ returns-in-Yes-clause-ends g c = λ job has.
     let s = c.in-Yes.ensures.settles in
     let e0 = c.args.engine.now in
     let e1 = c.append_waiting.new.engine in
-    ends_then c.args.by job.want e0 e1 c.end_settled.new.engine c.end_settled.result (asks_same c.args.by e0.upkeep e1.upkeep s.3) (c.end_settled.ensures.ends job (ap (job_of c.args.by) s.3 ∙ has))
+    ends_then c.args.by job.want e0 e1 c.end_settled.new.engine c.end_settled.result (asks_same c.args.by e0.upkeep e1.upkeep s.3).own (c.end_settled.ensures.ends job (ap (job_of c.args.by) s.3 ∙ has))
 
 pub take_home-requires-clause-out : goal.take_home-requires-clause-out
 take_home-requires-clause-out g c = ap (λ s. s.holder) c.in-Stopped.ensures.settles.1 ∙ (went_out g.D.Disk.tells g.D.Disk.seen g.D.Disk.now g.D.Disk.leaves g.D.Disk.faults c.args.by c.args.bound c.args.most c.args.lent _ c.args.engine.now c.requires.come).out

@@ -3,10 +3,10 @@ use Rattle.kt_maint.proofs.Readying.{no_device}
 use Rattle.kt_maint.proofs.jobs.leave_now.Goals as goal
 
 pub returns-in-Ok-clause-left : goal.returns-in-Ok-clause-left
-returns-in-Ok-clause-left g c = λ taken begins. (c.in-Ok.ensures.away taken begins, c.go_out.ensures.quiet.asks)
+returns-in-Ok-clause-left g c = λ w begins. (c.in-Ok.ensures.away w begins, c.go_out.ensures.quiet.asks)
 
 pub returns-in-Err-clause-left : goal.returns-in-Err-clause-left
-returns-in-Err-clause-left g c = λ taken begins.
+returns-in-Err-clause-left g c = λ w begins.
     let beside = c.let_go.ensures.beside in (
       refl,
       no_device c.args.by c.let_go.new.engine (ap (λ v. v.log.holder) beside ∙ ap (λ l. l.holder) c.go_out.ensures.quiet.log ∙ c.requires.calm.settled.2) (ap (λ v. v.store.holder) beside ∙ c.in-Err.ensures.home refl),

@@ -1,4 +1,4 @@
-use Rattle.std.proofs.Common.{refl}
+use Rattle.std.proofs.Common.{◌≤◌, ◌+◌, ◌^◌, refl, arith}
 use Rattle.std.proofs.lemmas.Result.{IfOk-weaker}
 use Rattle.kt_maint.proofs.Returns.{have_late}
 use Rattle.kt_maint.proofs.late.write_late.Goals as goal
@@ -6,10 +6,10 @@ use Rattle.kt_maint.proofs.late.write_late.Goals as goal
 pub returns-clause-added : goal.returns-clause-added
 returns-clause-added g c =
     let e = c.write_again-written.ensures in
-    record { meta = refl; few_files = e.few; rowset = refl; up = e.up; left = e.left; faults_rise = e.faults; rose = e.fault }
+    record { meta = refl; up = ((let x : c.args.lent.now.next_rowset ≤ c.args.lent.now.next_rowset = omega arith in x), e.up); risen = (let x : c.args.lent.now.next_rowset ≤ c.args.lent.now.next_rowset + 2 ^ 31 = omega arith in x); few_files = e.few; left = e.left; faults_rise = e.faults; rose = e.fault }
 
 pub returns-clause-files : goal.returns-clause-files
 returns-clause-files g c =
     let e = c.write_again-written.ensures in
-    have_late g.D.Disk.tells g.D.Disk.seen g.D.Disk.now g.D.Disk.leaves c.args.lent.now _ c.args.late.now.rowsets c.write_again-written.result e.again e.numbered
+    have_late g.D.Disk.tells g.D.Disk.seen g.D.Disk.now g.D.Disk.leaves c.args.lent.now _ c.args.late.now.rowsets refl c.write_again-written.result e.again e.numbered
     (IfOk-weaker c.write_again-written.result _ _ (λ done holds told. holds told c.requires.whole) e.holds) e.stable

@@ -1,7 +1,7 @@
 use Rattle.std.proofs.Common.{◌≡◌, Err, None, Some, inl, refl, sym, ap, subst, ◌∙◌}
-use Rattle.kt_engine.specs.declared.upkeep.Stage.TheVariants as stage
+use Rattle.kt_engine.specs.Outside.{job_out}
 use Rattle.kt_maint.specs.Runs.{MayAbandon}
-use Rattle.kt_maint.proofs.GoingOut.{went_as, out_at, leaves_as, out_compacts, is_away, read_abandon, went_quiet}
+use Rattle.kt_maint.proofs.GoingOut.{went_as, out_at, leaves_as, is_away, read_abandon, went_quiet}
 use Rattle.kt_maint.proofs.leaving.go_out.Goals as goal
 
 none_some : {A : Type 0} (x : A) → None ≡ Some x → ⊥
@@ -35,7 +35,7 @@ job_leave-requires-clause-stage g c =
     let e = c.in-Ok.ensures in
     let went = went_as g.D.Disk.tells g.D.Disk.seen g.D.Disk.now g.D.Disk.leaves g.D.Disk.faults by c.requires.begun.0 a b d input lent c.standing.ensures.side c.requires.calm c.requires.begun.1 c.in_ok-input.ensures.read e.lent.1 e.lent.2 e.meta (e.upkeep (inl e.meta)) e.numbers e.whole (e.near refl) (e.near_files refl) in
     let at = out_at g.D.Disk.tells g.D.Disk.seen g.D.Disk.now g.D.Disk.leaves g.D.Disk.faults by c.requires.begun.0 a b d input lent went in
-    (at.job, record { has = at.has; at = at.at }, out_compacts g.D.Disk.tells g.D.Disk.seen g.D.Disk.now g.D.Disk.leaves g.D.Disk.faults by c.requires.begun.0 a b d input lent went, at.takes, leaves_as g.D.Disk.tells g.D.Disk.seen g.D.Disk.now g.D.Disk.leaves g.D.Disk.faults by c.requires.begun.0 a b d input lent went)
+    (at.job, record { has = at.has; at = at.at }, at.takes, leaves_as g.D.Disk.tells g.D.Disk.seen g.D.Disk.now g.D.Disk.leaves g.D.Disk.faults by c.requires.begun.0 a b d input lent went)
 
 pub job_leave-requires-clause-begun : goal.job_leave-requires-clause-begun
 job_leave-requires-clause-begun g c =
@@ -66,10 +66,10 @@ returns-in-Ok-clause-quiet g c =
     let e = c.in-Ok.ensures in
     let went = went_as g.D.Disk.tells g.D.Disk.seen g.D.Disk.now g.D.Disk.leaves g.D.Disk.faults by c.requires.begun.0 a b d input lent c.standing.ensures.side c.requires.calm c.requires.begun.1 c.in_ok-input.ensures.read e.lent.1 e.lent.2 e.meta (e.upkeep (inl e.meta)) e.numbers e.whole (e.near refl) (e.near_files refl) in
     let at = out_at g.D.Disk.tells g.D.Disk.seen g.D.Disk.now g.D.Disk.leaves g.D.Disk.faults by c.requires.begun.0 a b d input lent went in
-    went_quiet by a b d c.job_leave.new.self c.read.ensures.quiet c.store_out.ensures.visit e.lent.2 (e.upkeep (inl e.meta)) c.job_leave.ensures.visit (record at.job { stage = stage.Outside }) (c.job_leave.ensures.left at.job at.has)
+    went_quiet by a b d c.job_leave.new.self c.read.ensures.quiet c.store_out.ensures.visit e.lent.2 (e.upkeep (inl e.meta)) c.job_leave.ensures.visit (job_out d.tablet.frozen at.job) (c.job_leave.ensures.left at.job at.has)
 
 pub returns-in-Ok-clause-away : goal.returns-in-Ok-clause-away
-returns-in-Ok-clause-away g c = λ taken begins.
+returns-in-Ok-clause-away g c = λ w begins.
     let by = c.args.by in
     let a = c.args.engine.now in
     let b = c.read.new.engine in
@@ -77,10 +77,10 @@ returns-in-Ok-clause-away g c = λ taken begins.
     let input = c.in_ok-input.input in
     let lent = c.in-Ok.lent in
     let e = c.in-Ok.ensures in
-    let went = went_as g.D.Disk.tells g.D.Disk.seen g.D.Disk.now g.D.Disk.leaves g.D.Disk.faults by taken a b d input lent c.standing.ensures.side c.requires.calm begins c.in_ok-input.ensures.read e.lent.1 e.lent.2 e.meta (e.upkeep (inl e.meta)) e.numbers e.whole (e.near refl) (e.near_files refl) in
-    let at = out_at g.D.Disk.tells g.D.Disk.seen g.D.Disk.now g.D.Disk.leaves g.D.Disk.faults by taken a b d input lent went in
-    let quiet = went_quiet by a b d c.job_leave.new.self c.read.ensures.quiet c.store_out.ensures.visit e.lent.2 (e.upkeep (inl e.meta)) c.job_leave.ensures.visit (record at.job { stage = stage.Outside }) (c.job_leave.ensures.left at.job at.has) in
-    is_away g.D.Disk.tells g.D.Disk.seen g.D.Disk.now g.D.Disk.leaves g.D.Disk.faults by taken a b d input lent went c.job_leave.new.self c.end_of_turn-most.result c.end_of_turn-most.ensures.few quiet.visit (c.job_leave.ensures.left at.job at.has)
+    let went = went_as g.D.Disk.tells g.D.Disk.seen g.D.Disk.now g.D.Disk.leaves g.D.Disk.faults by w a b d input lent c.standing.ensures.side c.requires.calm begins c.in_ok-input.ensures.read e.lent.1 e.lent.2 e.meta (e.upkeep (inl e.meta)) e.numbers e.whole (e.near refl) (e.near_files refl) in
+    let at = out_at g.D.Disk.tells g.D.Disk.seen g.D.Disk.now g.D.Disk.leaves g.D.Disk.faults by w a b d input lent went in
+    let quiet = went_quiet by a b d c.job_leave.new.self c.read.ensures.quiet c.store_out.ensures.visit e.lent.2 (e.upkeep (inl e.meta)) c.job_leave.ensures.visit (job_out d.tablet.frozen at.job) (c.job_leave.ensures.left at.job at.has) in
+    is_away g.D.Disk.tells g.D.Disk.seen g.D.Disk.now g.D.Disk.leaves g.D.Disk.faults by w a b d input lent went c.job_leave.new.self c.end_of_turn-most.result c.end_of_turn-most.ensures.few quiet.visit (c.job_leave.ensures.left at.job at.has)
 
 pub returns-in-Err-Memory-clause-memory : goal.returns-in-Err-Memory-clause-memory
 returns-in-Err-Memory-clause-memory g c = λ err.
