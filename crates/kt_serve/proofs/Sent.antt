@@ -116,7 +116,7 @@ job_send = recorded_send (Job.the_field).row _ _ (Job.the_type).to_one (struct_s
                 plain_send _ _ _ _ _,
                 (
                   plain_send _ _ _ _ _,
-                  (search (sendable, crosses), (outputs.the_send, (plain_send _ _ _ _ _, (plain_send _ _ _ _ _, (plain_send _ _ _ _ _, (search (sendable, crosses), (search (sendable, crosses), (search (sendable, crosses, rowset_data.the_send) depth 8, tt)))))))),
+                  (search (sendable, crosses), (outputs.the_send, (plain_send _ _ _ _ _, (plain_send _ _ _ _ _, (plain_send _ _ _ _ _, (search (sendable, crosses), (search (sendable, crosses), (plain_send _ _ _ _ _, (search (sendable, crosses), (search (sendable, crosses, rowset_data.the_send) depth 8, tt)))))))))),
                 ),
               ),
             ),
