@@ -60,6 +60,15 @@ const COMPACTS: Moment = Moment::ChangeAfter {
     },
 };
 
+// The first change of the store once it comes to its second one.
+const FLUSHES: Moment = Moment::ChangeAfter {
+    mark: 2,
+    point: Point::Before {
+        session: 1,
+        index: 2,
+    },
+};
+
 // The second session comes to its first command.
 pub(super) const SECOND: Moment = Moment::At(Point::Before {
     session: 2,
@@ -95,7 +104,7 @@ pub(super) const NONE: Rule = Rule {
     }),
 };
 
-const SCHEDULES: [Schedule; 5] = [
+const SCHEDULES: [Schedule; 6] = [
     // A write flies beside another.
     Schedule {
         lines: b"session\ninsert 1 \"a\"\nsession\ninsert 2 \"b\"\n",
@@ -144,6 +153,19 @@ const SCHEDULES: [Schedule; 5] = [
         },
         second: NONE,
         printed: b"session 1\nat 20480 ok\nrows 20480 1\n1 \"a\"\nsession 2\nat 20481 ok\nahm 20481\nancient 20480 20481\nhistory\nbegin 1 1 20480 5\nend 1 1 20480\nrows 1 2 20480\nbegin 2 1 20481 3\nend 2 1 20481\nmark 2 2 20481\nancient 2 3 20480 20481\ntablet ahm 20481 last 20481 rowsets 0\n",
+    },
+    // A row is changed, and read as it was, and another comes, while the MemRowSet is flushed.
+    Schedule {
+        lines: b"session\ninsert 1 \"a\"\nflush\nsession\nupdate 1 v=\"b\" ; insert 2 \"c\"\nscan at 20480\n",
+        first: Rule {
+            hold: SECOND,
+            until: FLUSHES,
+        },
+        second: Rule {
+            hold: FLUSHES,
+            until: ANSWERED_AGAIN,
+        },
+        printed: b"session 1\nat 20480 ok\ndone\nsession 2\nat 20481 ok ok\nrows 20480 1\n1 \"a\"\nhistory\nbegin 1 1 20480 5\nend 1 1 20480\nbegin 2 1 20481 3\nend 2 1 20481\nrows 2 2 20480\nchore 1 2\ntablet ahm 0 last 20481 rowsets 2\n",
     },
     // A row is changed, and read as it was, while its rowset is merged.
     Schedule {
