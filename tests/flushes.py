@@ -96,7 +96,7 @@ def a_flush_of_nothing_is_done(room):
 
 
 def a_flush_leaves_its_files(room):
-    """A flush writes the base file and the UNDO file of its rowset under the next numbers, and the superblock names both."""
+    """A flush writes the base file and the UNDO file of its rowset under the next numbers, and the superblock names both, and the second MemRowSet that it froze."""
     machine, output = plays(room, TABLE + 'insert "a" 5 ; insert "b" 2\nflush\n', None, 1)
     time = times_in(output)[0]
     base = spelled.base_file([b"a", b"b"], (2, [5, 2]))
@@ -105,7 +105,7 @@ def a_flush_leaves_its_files(room):
     if sorted(files) != ["f1", "f2", "f3", "f4"] or files["f3"] != base or files["f4"] != undo:
         raise Wrong(f"{ {it: files[it].hex() for it in files} }")
     rowset = spelled.rowset(1, 0, (3, len(base)), [(4, len(undo))])
-    last = spelled.slot(spelled.body(3, COLUMNS, [rowset], last=time, need=2, last_mem=1, next_rowset=2, next_file=5))
+    last = spelled.slot(spelled.body(3, COLUMNS, [rowset], last=time, need=2, last_mem=2, next_rowset=2, next_file=5))
     if last not in files.values():
         raise Wrong(f"no slot is {last.hex()}: {files['f1'].hex()} {files['f2'].hex()}")
 

@@ -260,10 +260,10 @@ def a_flush_writes_what_the_mark_leaves(room):
 
 
 def a_change_goes_to_the_store_that_has_the_row(room):
-    """A COMMIT names the MemRowSet or the DeltaMemStore that took the change: that of the row, and for a new row the MemRowSet."""
+    """A COMMIT names the MemRowSet or the DeltaMemStore that took the change: that of the row, and for a new row the MemRowSet. A flush freezes two of these."""
     lines = ['insert "ant" 1', "flush", 'insert "bee" 2', 'update "ant" n=3', 'upsert "bee" n=4', 'delete "ant"', 'insert "ant" 5', 'update "ant" n=6']
     _, output = plays(room, TABLE + "".join(f"{it}\n" for it in lines), None, 1)
-    stores = [in_memory(1), in_memory(2), in_delta(1, 1), in_memory(2), in_delta(1, 1), in_memory(2), in_memory(2)]
+    stores = [in_memory(1), in_memory(3), in_delta(1, 1), in_memory(3), in_delta(1, 1), in_memory(3), in_memory(3)]
     wanted = [commit(at, (DONE, it)) for at, it in zip(times_in(output), stores)]
     found = [it for it in records_in(log_now(room)) if it[0] == 2]
     if found != wanted:

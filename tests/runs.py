@@ -207,7 +207,7 @@ def answers_of_each_kind_are_given(room):
         "absent", "present", "ignored",
     }
     found = set()
-    for seed in range(40):
+    for seed in range(400):
         script = random_script(random.Random(seed), 16, 30, 4096 * 400) + f'upsert 1 v="{"a" * 40_000}"\n'
         status, output = room.run(["memory", "run", "--pool", "1024"], script.encode())
         wants(status == 0, f"seed {seed}: status {status}")
