@@ -1,31 +1,51 @@
 //! Spelling cells behind other bytes.
-ghost use Rattle.std.specs.Prelude.{◌≡◌, ◌<◌, ◌^◌, ◌++◌, [], length, OnOk};
+ghost use Rattle.std.specs.Prelude.{◌≡◌, ◌<◌, ◌^◌, ◌++◌, ◌∷◌, [], length, OnOk};
 ghost use Rattle.std.specs.List.{flat_map};
+ghost use Rattle.std.specs.Int.{w16, w32, w64, to_le_bytes, cast_unsigned};
 ghost use Rattle.kt_base.specs.Borrowed.{cell_in};
-ghost use Rattle.kt_cells.specs.Spelling.{cell as cell_bytes, listed_cell, cell_list};
+ghost use Rattle.kt_cells.specs.Spelling.{flag, listed_cell, cell_list};
 ghost use Rattle.kt_cells.specs.Rules.{EachAfter, CellFits, FollowingCell};
 
 use crate::tail::Tail;
 use kt_base::{Cell, CellRef, Cells, NoMemory};
 
-fn put_cell(out: &mut Tail, cell: CellRef<'_>) -> Result<(), NoMemory>
-    requires { CellFits (cell_in cell) }
-    ensures front { out.new.front ≡ out.old.front }
-    ensures ok { OnOk result (out.new.added ≡ out.old.added ++ cell_bytes (cell_in cell.entry)) }
+// A column's id, and what its cell is, which has no value.
+fn listed_null(id: u16) -> [u8; 3]
+    ensures { result ≡ to_le_bytes w16 id ++ 0 ∷ [] }
 {
-    match cell {
-        CellRef::Null => out.push(0),
-        CellRef::Bool(flag) => out.extend(&[1, u8::from(flag)]),
-        CellRef::Int(number) => {
-            out.push(2)?;
-            out.extend(&number.to_le_bytes())
-        }
-        CellRef::Bytes(bytes) => {
-            out.push(3)?;
-            out.extend(&(bytes.len() as u32).to_le_bytes())?;
-            out.extend(bytes)
-        }
-    }
+    let mut listed = [0; 3];
+    listed[..2].copy_from_slice(&id.to_le_bytes());
+    listed
+}
+
+// The same of a truth value, and that.
+fn listed_bool(id: u16, value: bool) -> [u8; 4]
+    ensures { result ≡ to_le_bytes w16 id ++ 1 ∷ flag value ∷ [] }
+{
+    let mut listed = [1; 4];
+    listed[..2].copy_from_slice(&id.to_le_bytes());
+    listed[3] = u8::from(value);
+    listed
+}
+
+// The same of a number, and that.
+fn listed_int(id: u16, number: i64) -> [u8; 11]
+    ensures { result ≡ to_le_bytes w16 id ++ 2 ∷ to_le_bytes w64 (cast_unsigned w64 number) }
+{
+    let mut listed = [2; 11];
+    listed[..2].copy_from_slice(&id.to_le_bytes());
+    listed[3..].copy_from_slice(&number.to_le_bytes());
+    listed
+}
+
+// The same of a byte string, and its length.
+fn listed_bytes(id: u16, len: u32) -> [u8; 7]
+    ensures { result ≡ to_le_bytes w16 id ++ 3 ∷ to_le_bytes w32 len }
+{
+    let mut listed = [3; 7];
+    listed[..2].copy_from_slice(&id.to_le_bytes());
+    listed[3..].copy_from_slice(&len.to_le_bytes());
+    listed
 }
 
 /// Adds a column's id and its cell. Without memory a part of them may be added.
@@ -34,8 +54,15 @@ pub fn put_listed_cell(out: &mut Tail, id: u16, cell: CellRef<'_>) -> Result<(),
     ensures front { out.new.front ≡ out.old.front }
     ensures ok { OnOk result (out.new.added ≡ out.old.added ++ listed_cell (id, cell_in cell.entry)) }
 {
-    out.extend(&id.to_le_bytes())?;
-    put_cell(out, cell)
+    match cell {
+        CellRef::Null => out.extend(&listed_null(id)),
+        CellRef::Bool(value) => out.extend(&listed_bool(id, value)),
+        CellRef::Int(number) => out.extend(&listed_int(id, number)),
+        CellRef::Bytes(bytes) => {
+            out.extend(&listed_bytes(id, bytes.len() as u32))?;
+            out.extend(bytes)
+        }
+    }
 }
 
 fn put_cells(out: &mut Tail, cells: &[(u16, Cell)]) -> Result<(), NoMemory>
