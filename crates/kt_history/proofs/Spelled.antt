@@ -106,11 +106,15 @@ len_is op key cells s k c =
 -- ---- lists
 
 -- what is pushed is spelled
-pub parts_are : (op : RowOp) (number : ℕ) (len key cells : List ℕ) → SpellsCells cells → number ≡ kind op.kind → len ≡ to_le_bytes w16 (length op.key) → op.key ≡ key → op.cells ≡ cells_behind cells
-    → (number ∷ []) ++ (len ++ (key ++ (cells ++ []))) ≡ operation op
-parts_are op number len key cells s n l k c =
+pub parts_are : (op : RowOp) (front key cells : List ℕ) → SpellsCells cells → front ≡ kind op.kind ∷ to_le_bytes w16 (length op.key) → op.key ≡ key → op.cells ≡ cells_behind cells
+    → front ++ (key ++ (cells ++ [])) ≡ operation op
+parts_are op front key cells s f k c =
     let same : cells ≡ cell_list op.cells = s.is ∙ ap cell_list (sym c) in
-    rw (n, l, sym k, append-nil cells, same) (ap (λ (xs : List ℕ). kind op.kind ∷ xs) (sym (append_assoc (to_le_bytes w16 (length op.key)) op.key (cell_list op.cells))))
+    rw (f, sym k, append-nil cells, same) (ap (λ (xs : List ℕ). kind op.kind ∷ xs) (sym (append_assoc (to_le_bytes w16 (length op.key)) op.key (cell_list op.cells))))
+
+-- bytes that spell an operation are its spelling
+pub only_part : (bytes : List ℕ) → SpellsOp bytes → bytes ++ [] ≡ operation (op_in bytes)
+only_part bytes s = append-nil bytes ∙ s.is
 
 pub pushed : (texts : List (List ℕ)) (op : RowOp) (ops : List RowOp) → OpFits op → ops_in texts ≡ ops → ops_in (texts ++ operation op ∷ []) ≡ ops ++ op ∷ []
 pushed texts op ops fits view = map-append op_in texts (operation op ∷ []) ∙ rw (view, op_again op fits) refl

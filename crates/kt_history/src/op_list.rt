@@ -1,6 +1,7 @@
 //! The operations of a write, held as the bytes that spell them, so that they are copied, logged and placed as they lie.
 ghost use Rattle.std.specs.Prelude.{◌≡◌, ◌==◌, ◌<◌, ◌≤◌, ◌+◌, ◌^◌, ◌∷◌, ◌++◌, [], length, get_or, slice_get, IfOk, OnOk, OnErr};
 ghost use Rattle.std.specs.List.{between, flat_map};
+ghost use Rattle.std.specs.Int.{w16, to_le_bytes};
 ghost use Rattle.kt_cells.specs.Spelling.{cell_list};
 ghost use Rattle.kt_cells.specs.Reading.{cells_behind};
 ghost use Rattle.kt_cells.specs.Spelled.{SpellsCells};
@@ -109,6 +110,15 @@ fn kind_of(number: u8) -> OpKind
     }
 }
 
+// What stands in front of a key: the operation's kind, and the key's length.
+fn front_of(kind: OpKind, len: u16) -> [u8; 3]
+    ensures { result ≡ number_of_kind kind ∷ to_le_bytes w16 len }
+{
+    let mut front = [number_of_kind(kind); 3];
+    front[1..].copy_from_slice(&len.to_le_bytes());
+    front
+}
+
 // The operation that some bytes spell.
 fn op_of(bytes: &[u8]) -> OpRef<'_>
     requires { SpellsOp bytes.now }
@@ -208,9 +218,18 @@ impl OpList {
         ensures ok { OnOk result (self.new ≡ self.old ++ op.now ∷ []) }
         ensures err { OnErr result (self.new ≡ self.old) }
     {
-        let number = [number_of_kind(op.kind)];
-        let len = (op.key.len() as u16).to_le_bytes();
-        self.texts.push_parts(&[&number, &len, op.key, op.cells])
+        let front = front_of(op.kind, op.key.len() as u16);
+        self.texts.push_parts(&[&front, op.key, op.cells])
+    }
+
+    /// Adds the operation that these bytes spell. Without memory nothing is added. Where the bytes of the list are shared, an
+    /// own copy is taken first.
+    pub fn push_spelled(&mut self, bytes: &[u8]) -> Result<(), NoMemory>
+        requires { SpellsOp bytes.now }
+        ensures ok { OnOk result (self.new ≡ self.old ++ op_in bytes.now ∷ []) }
+        ensures err { OnErr result (self.new ≡ self.old) }
+    {
+        self.texts.push_parts(&[bytes])
     }
 
     /// No operations are left. Where nothing shared their bytes, the room of these stays.

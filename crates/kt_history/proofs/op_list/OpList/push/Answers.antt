@@ -14,7 +14,7 @@ fits c = subst OpFits c.op.view_is (record { key = c.op.invariant.0; cells = c.o
 
 added : (c : goal.After-push_parts) → OnOk c.push_parts.result (c.push_parts.new.self ≡ c.self.inside.texts ++ operation c.args.op.now ∷ [])
 added c =
-    let parts = parts_are c.args.op.now c.number_of_kind.result c.to_le_bytes-len.result c.op.inside.key.now c.op.inside.cells.now c.op.invariant.1 (c.number_of_kind.ensures ∙ ap (λ (o : RowOp). kind o.kind) c.op.view_is) (c.to_le_bytes-len.ensures ∙ ap (λ (o : RowOp). to_le_bytes w16 (length o.key)) c.op.view_is) (key_is c) (sym (ap (λ (o : RowOp). o.cells) c.op.view_is)) in
+    let parts = parts_are c.args.op.now c.front_of-front.result c.op.inside.key.now c.op.inside.cells.now c.op.invariant.1 (c.front_of-front.ensures ∙ ap (λ (o : RowOp). kind o.kind ∷ to_le_bytes w16 (length o.key)) c.op.view_is) (key_is c) (sym (ap (λ (o : RowOp). o.cells) c.op.view_is)) in
     subst (λ (text : List ℕ). OnOk c.push_parts.result (c.push_parts.new.self ≡ c.self.inside.texts ++ text ∷ [])) parts c.push_parts.ensures.ok
 
 pub invariant_of-self : goal.invariant_of-self
