@@ -1,10 +1,13 @@
 -- Records as a format: what is read is spelled so, what is spelled so is read, and where other bytes are at fault.
-use Rattle.std.proofs.Common.{◌≡◌, ℕ, zero, suc, ◌+◌, ◌^◌, ◌<◌, ◌≤◌, true, List, [], ◌∷◌, ◌++◌, length, Option, Some, None, Result, Ok, Err, refl, sym, ap, ◌∙◌, arith}
+use Rattle.std.proofs.Common.{◌≡◌, ℕ, zero, suc, ◌+◌, ◌^◌, ◌<◌, ◌≤◌, true, List, [], ◌∷◌, ◌++◌, length, take, Option, Some, None, Result, Ok, Err, refl, sym, ap, ◌∙◌, arith}
 use Rattle.std.specs.Prelude.{IfOk}
 use Rattle.std.specs.List.{concat, flat_map}
 use Rattle.std.specs.Int.{w16, w64, to_le_bytes}
-use Rattle.std.proofs.lemmas.List.{length_push}
+use Rattle.std.proofs.lemmas.List.{length_push, take_at}
 use Rattle.kt_history.specs.declared.operation.RowOp.{RowOp}
+use Rattle.kt_history.specs.Operations.{op_len}
+use Rattle.kt_history.specs.Spelled.{OpFits}
+use Rattle.kt_history.proofs.Lengths.{length-operation}
 use Rattle.kt_history.specs.declared.target.Target.{Target}
 use Rattle.kt_history.specs.declared.target.Target.TheVariants as stores
 use Rattle.kt_bytes.specs.declared.fault.CodecNo.{CodecNo}
@@ -220,6 +223,16 @@ entry_part =
 operation_spelled : (op : RowOp) → concat (operation_fields op) ≡ operation op
 operation_spelled op =
     ap (λ (l : List ℕ). kind op.kind ∷ (to_le_bytes w16 (length op.key) ++ (op.key ++ l))) (cell_list_spelled op.cells)
+
+-- an operation that was read stands in front of what is left
+pub op_took : (front : List RowOp) (bytes : List ℕ) (op : RowOp) (rest : List ℕ) → length front < 256 → IsBytes bytes → operation_at front bytes ≡ Ok (op, rest) → (bytes ≡ operation op ++ rest) × OpFits op
+op_took front bytes op rest few fits reads =
+    let took = (operation_part front few).took bytes (op, rest) fits reads in
+    (took.parts ∙ ap (λ (l : List ℕ). l ++ rest) (operation_spelled op), record { key = took.fits.key; cells = record { count = took.fits.cells.count; each = took.fits.cells.cells } })
+
+-- so many bytes as it has are its own
+pub op_in_front : (op : RowOp) (bytes rest : List ℕ) (n : ℕ) → n ≡ op_len op → bytes ≡ operation op ++ rest → take n bytes ≡ operation op
+op_in_front op bytes rest n len is = rw (is, len) (take_at (operation op) rest (op_len op) (length-operation op))
 
 target_spelled : (t : Target) → concat (target_fields t) ≡ target t
 target_spelled (stores.Mem number) = refl

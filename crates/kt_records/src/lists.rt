@@ -1,16 +1,19 @@
 //! Lists behind their counts, read from the front of some bytes.
-ghost use Rattle.std.specs.Prelude.{◌≡◌, ◌<◌, ◌≤◌, ◌++◌, [], length, drop, true, IfOk};
+ghost use Rattle.std.specs.Prelude.{◌≡◌, ◌<◌, ◌≤◌, ◌++◌, ◌∷◌, [], ℕ, List, length, drop, true, IfOk, OnOk, OnErr};
 ghost use Rattle.kt_records.specs.Rules.{may_list, may_change};
 ghost use Rattle.kt_bytes.specs.Reading.{Gives, many_at};
 ghost use Rattle.kt_cells.specs.Reading.{cells_behind};
 ghost use Rattle.kt_cells.specs.Spelled.{SpellsCells};
 ghost use Rattle.kt_records.specs.Rising.{AreBelow, LastIsTop};
+ghost use Rattle.kt_history.specs.Spelled.{OpFits};
+ghost use Rattle.kt_records.specs.Spelling.{operation};
 ghost use Rattle.kt_records.specs.Reading.{cell_list_at, operation_at, target_at, target_list_at, commit_row_at};
 
 use crate::entry::{CommitRow, TargetList};
 use crate::fields::{kind_of, new_key_of, outcome_of, target_of};
 use crate::front::Front;
 use crate::log_records::OpsRef;
+use kt_base::NoMemory;
 use kt_bytes::Stop;
 use kt_bytes::fields::{fault_at, u16_at};
 use kt_cells::lists::spelled_cells_of;
@@ -60,6 +63,8 @@ fn operation_behind<'a>(
     requires rises { rises ≡ true → LastIsTop (drop first ops.now) }
     ensures read { Gives (λ x. (x.0, x.2.now)) result (operation_at (drop first ops.now) bytes.now) }
     ensures above { IfOk result (λ x. x.1 ≡ true → AreBelow (drop first ops.now) x.0.key) }
+    ensures spelled { length (drop first ops.now) < 256 → IfOk result (λ x. bytes.now ≡ operation x.0 ++ x.2.now) }
+    ensures fits { length (drop first ops.now) < 256 → IfOk result (λ x. OpFits x.0) }
 {
     let front = Front::of(OpsRef::behind(ops, first), rises);
     let (op, rest) = operation_of(&front, bytes)?;
@@ -67,8 +72,20 @@ fn operation_behind<'a>(
     Ok((op, rises, rest))
 }
 
+// Adds an operation as it lies in front of other bytes.
+fn keep(ops: &mut OpList, op: &OpRef<'_>, bytes: &[u8]) -> Result<(), NoMemory>
+    requires spelled { (rest : List ℕ) × (bytes.now ≡ operation op.now ++ rest) }
+    requires fits { OpFits op.now }
+    ensures ok { OnOk result (ops.new ≡ ops.old ++ op.now ∷ []) }
+    ensures err { OnErr result (ops.new ≡ ops.old) }
+{
+    let (spelled, _) = bytes.split_at(op.len());
+    ops.push_spelled(spelled)
+}
+
 /// Adds so many operations on different keys behind others, and gives the bytes after them.
 pub fn operations_into<'a>(ops: &mut OpList, count: u16, bytes: &'a [u8]) -> Result<&'a [u8], Stop>
+    requires { count ≤ 64 }
     ensures read { Gives (λ rest. (drop (length ops.old) ops.new, rest.now)) result (many_at operation_at count [] bytes.now) }
     ensures front { ops.new ≡ ops.old ++ drop (length ops.old) ops.new }
 {
@@ -77,7 +94,7 @@ pub fn operations_into<'a>(ops: &mut OpList, count: u16, bytes: &'a [u8]) -> Res
     let mut rest = bytes;
     'ops: for _ in 0..count {
         let (op, above, after) = operation_behind(ops, first, rises, rest)?;
-        ops.push(&op)?;
+        keep(ops, &op, rest)?;
         rises = above;
         rest = after;
     }

@@ -9,5 +9,6 @@ invariant-ops l = record {
   reads : many_at operation_at (l.count - l.counter) (drop l.first l.ops) l.rest ≡ many_at operation_at l.count [] l.bytes;
   front : l.ops ≡ l.initial.ops ++ drop l.first l.ops;
   first : l.first ≡ length l.initial.ops;
+  few : length (drop l.first l.ops) ≡ l.counter;
   rises : l.rises ≡ true → LastIsTop (drop l.first l.ops);
 }
