@@ -1,8 +1,9 @@
 //! The changes of a store, held as the bytes that spell them, so that a copy of many takes no memory for each.
-ghost use Rattle.std.specs.Prelude.{◌≡◌, ◌==◌, ◌+◌, ◌-◌, ◌<◌, ◌↔◌, ◌∷◌, ◌++◌, [], ℕ, List, true, false, not, ◌≤◌, length, get_or, slice_get, Some, IsTrue, IfOk, OnOk, OnErr};
+ghost use Rattle.std.specs.Prelude.{◌≡◌, ◌==◌, ◌+◌, ◌-◌, ◌<◌, ◌↔◌, ◌∷◌, ◌++◌, [], ℕ, List, true, false, not, ◌≤◌, length, get_or, slice_get, take, drop, Some, IsTrue, IfOk, IfSome, OnOk, OnErr};
 ghost use Rattle.std.specs.List.Sorted.{IsPartitionedBy, IsPartitionPoint};
 ghost use Rattle.std.specs.Option.{option_copied, option_map};
 ghost use Rattle.std.specs.Ordering.{is_lt};
+ghost use Rattle.std.specs.Int.{w64, from_be_bytes, to_be_bytes};
 ghost use Rattle.kt_history.specs.Rows.{key_cmp};
 ghost use Rattle.kt_cells.specs.Reading.{cells_behind};
 ghost use Rattle.kt_history.specs.declared.change_list.Head.{Head as HeadSpec};
@@ -72,12 +73,46 @@ fn bytes_of(bytes: &[u8], part: Part) -> &[u8]
     }
 }
 
+// The number that the first eight bytes spell, the highest first, and the bytes behind them, if there are so many.
+fn first_eight(bytes: &[u8]) -> Option<(u64, &[u8])>
+    ensures { IfSome result (λ x. (x.0 ≡ from_be_bytes w64 (take 8 bytes.now)) × (to_be_bytes w64 x.0 ≡ take 8 bytes.now) × (x.1.now ≡ drop 8 bytes.now)) }
+{
+    match bytes.split_first_chunk::<8>() {
+        Some((front, behind)) => Some((u64::from_be_bytes(*front), behind)),
+        None => None,
+    }
+}
+
+// Whether two byte strings are the same.
+fn is_same_text(one: &[u8], other: &[u8]) -> bool
+    ensures same { result ≡ true → one.now ≡ other.now }
+    ensures equal { one.now ≡ other.now → result ≡ true }
+{
+    one == other
+}
+
+// As `is_same_text`. The first eight bytes are compared as one number: many keys have no more.
+fn is_same_key(one: &[u8], other: &[u8]) -> bool
+    ensures same { result ≡ true → one.now ≡ other.now }
+    ensures equal { one.now ≡ other.now → result ≡ true }
+{
+    match (first_eight(one), first_eight(other)) {
+        (Some((front, behind)), Some((number, rest))) => {
+            front == number && is_same_text(behind, rest)
+        }
+        _ => is_same_text(one, other),
+    }
+}
+
 // Whether a part is there, and has these bytes.
 fn is_at(bytes: &[u8], part: Part, text: &[u8]) -> bool
     ensures is { result ≡ true → (part.from + part.len ≤ length bytes.now) × (part_of bytes.now part ≡ text.now) }
     ensures is_not { result ≡ false → (part.from + part.len ≤ length bytes.now) × (part_of bytes.now part ≡ text.now) → ⊥ }
 {
-    part.from <= bytes.len() && part.len <= bytes.len() - part.from && bytes_of(bytes, part) == text
+    if part.from > bytes.len() || part.len > bytes.len() - part.from {
+        return false;
+    }
+    is_same_key(bytes_of(bytes, part), text)
 }
 
 // Whether two parts begin and end alike.
@@ -107,16 +142,25 @@ fn add(
     ensures inside { are_inside (length bytes.new.items) heads.new.items ≡ true }
     ensures told { AreTold bytes.new.items heads.new.items }
 {
+    heads.reserve(1)?;
     let from = bytes.len();
     let len = cells.len();
     bytes.extend_from_slice(cells)?;
-    heads.push(Head {
+    heads.push_reserved(Head {
         key,
         cells: Part { from, len },
         ts,
         kind,
-    })?;
+    });
     Ok(())
+}
+
+// How many more there are for so many keys more, on the scale of those that the first keys have.
+fn on_scale(len: usize, keys: usize, more: usize) -> usize {
+    len.checked_div(keys)
+        .unwrap_or(0)
+        .saturating_add(1)
+        .saturating_mul(more)
 }
 
 // Which bytes are the key of the last change.
@@ -159,6 +203,17 @@ impl ChangeList {
             bytes: Vec::new(alloc),
             heads: Vec::new(alloc),
         }
+    }
+
+    /// Makes room for the changes of so many keys more, as many and as long as those of the first keys, of which the list has so
+    /// many. Where there is no memory for that it stays as it is.
+    pub fn make_room(&mut self, keys: usize, more: usize)
+        ensures { self.new ≡ self.old }
+    {
+        let bytes = on_scale(self.bytes.len(), keys, more);
+        let _ = self.bytes.reserve(bytes);
+        let heads = on_scale(self.heads.len(), keys, more);
+        let _ = self.heads.reserve(heads);
     }
 
     pub fn len(&self) -> usize
@@ -208,7 +263,7 @@ impl ChangeList {
         ensures { IsTrue result ↔ (option_map (λ c. c.key) (slice_get self.now at) ≡ Some key.now) }
     {
         match self.key(at) {
-            Some(here) => here == key,
+            Some(here) => is_same_key(here, key),
             None => false,
         }
     }

@@ -101,13 +101,26 @@ fn part(cells: &[Flat], start: usize, end: usize) -> &[Flat]
     &cells[start..end]
 }
 
+// Makes room for so many more, and where there was none for seven times as many as there are. Where there is no memory for that the
+// room stays as it is.
+fn widen<X>(items: &mut Vec<X>, more: usize)
+    ensures { items.new.items ≡ items.old.items }
+{
+    if items.capacity() - items.len() >= more {
+        return;
+    }
+    let many = items.len().saturating_mul(7).max(more);
+    let _ = items.reserve(many);
+}
+
 // Adds a cell, and its text. Without memory no cell is added.
 fn push_flat(cells: &mut Vec<Flat>, texts: &mut Texts, cell: CellRef<'_>) -> Result<(), NoMemory>
     ensures ok { OnOk result ((row : List Cell) → AreFlat texts.old cells.old.items row → AreFlat texts.new cells.new.items (row ++ cell_in cell.entry ∷ [])) }
     ensures err { OnErr result ((row : List Cell) → AreFlat texts.old cells.old.items row → AreFlat texts.new cells.new.items row) }
 {
+    cells.reserve(1)?;
     let flat = flat_of(texts, cell)?;
-    cells.push(flat)?;
+    cells.push_reserved(flat);
     Ok(())
 }
 
@@ -163,6 +176,15 @@ impl RowList {
         let cells = part(&self.cells, start, self.ends[at]);
         let texts = &self.texts;
         RowCells { cells, texts }
+    }
+
+    /// Makes room for a row of so many cells, and for many rows where that is more than there was, so that a list that grows row by row
+    /// is seldom moved. It fails nowhere.
+    pub fn make_room(&mut self, cells: usize)
+        ensures { self.new ≡ self.old }
+    {
+        widen(&mut self.ends, 1);
+        widen(&mut self.cells, cells);
     }
 
     /// Adds a row of these cells. Without memory nothing is added.

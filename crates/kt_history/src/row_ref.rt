@@ -1,6 +1,6 @@
 //! A row that borrows its texts, so that it is read without a copy.
 ghost use Rattle.std.specs.Prelude.{◌≡◌, ◌+◌, ◌<◌, ◌≤◌, ◌∷◌, ◌++◌, [], true, length, IfOk, OnOk};
-ghost use Rattle.std.specs.List.{list_all, list_any};
+ghost use Rattle.std.specs.List.{insert, list_all, list_any};
 ghost use Rattle.std.specs.Ordering.{nat_cmp, is_eq};
 ghost use Rattle.std.specs.FinMap.Entries.{put};
 ghost use Rattle.kt_base.specs.Borrowed.{cell_in};
@@ -62,7 +62,8 @@ impl<'v> RowRef<'v> {
     pub fn push(&mut self, id: u16, cell: CellRef<'v>) -> Result<(), NoMemory>
         ensures { OnOk result (self.new ≡ self.old ++ (id, cell_in cell.entry) ∷ []) }
     {
-        self.cells.push((id, cell))?;
+        self.cells.reserve(1)?;
+        self.cells.push_reserved((id, cell));
         Ok(())
     }
 
@@ -270,6 +271,25 @@ fn put_ref<'v>(
     Ok(())
 }
 
+// Puts a cell in at a place. Behind the last one it is pushed, which moves nothing.
+fn insert_at<'v>(
+    cells: &mut Vec<(u16, CellRef<'v>)>,
+    at: usize,
+    id: u16,
+    cell: CellRef<'v>,
+) -> Result<(), NoMemory>
+    requires { at ≤ length cells.old.items }
+    ensures { OnOk result (cells.new.items ≡ insert cells.old.items at (id, cell.entry)) }
+{
+    if at == cells.len() {
+        cells.reserve(1)?;
+        cells.push_reserved((id, cell));
+        return Ok(());
+    }
+    cells.insert(at, (id, cell))?;
+    Ok(())
+}
+
 // Sets the cell of a column that is above those before `from`, and tells its place.
 fn put_behind<'v>(
     cells: &mut Vec<(u16, CellRef<'v>)>,
@@ -289,7 +309,7 @@ fn put_behind<'v>(
             Ok(at)
         }
         Err(at) => {
-            cells.insert(at, (id, cell))?;
+            insert_at(cells, at, id, cell)?;
             Ok(at)
         }
     }
