@@ -5,13 +5,14 @@ ghost use Rattle.kt_cells.specs.Spelling.{cell_list};
 ghost use Rattle.kt_key.specs.Fit.{is_key};
 ghost use Rattle.kt_key.specs.Spelling.{spelling};
 ghost use Rattle.kt_schema.specs.Columns.{columns_no, key_columns, key_kinds};
-ghost use Rattle.kt_script.specs.Reasons.{no_of, reason_if};
+ghost use Rattle.kt_script.specs.Reasons.{sound, no_of, reason_if};
 ghost use Rattle.kt_script.specs.Writes.{cells_no, cells_of, under, key_no, key_len, key_of, is_empty, none_left_no, first_op, later_ops, words_cut, op_in, later_in, ops_in, IsOpCut};
 
 use crate::least::{Least, put_cell_read, read_cell};
 use crate::word::{is_word, next_word};
 use kt_base::limits::KEY_LEN;
-use kt_base::{Cell, NoMemory, Octets};
+use kt_base::literal::plain_literal;
+use kt_base::{Cell, CellRef, NoMemory, Octets};
 use kt_cells::Tail;
 use kt_key::encode_key_into;
 use kt_schema::{Column, Schema};
@@ -212,6 +213,23 @@ fn spell_key(
     Ok(())
 }
 
+// The cell of a lone key column, where the next word spells it as a number, and what is left of the line behind it.
+fn lone_number<'a>(columns: &[Column], rest: Option<&'a [u8]>) -> Option<(Cell, Option<&'a [u8]>)>
+    ensures cells { IfSome result (λ taken. cells_of columns.now (op_in rest.entry) ≡ taken.0 ∷ []) }
+    ensures behind { IfSome result (λ taken. op_in taken.1 ≡ drop (length columns.now) (op_in rest.entry)) }
+    ensures later { IfSome result (λ taken. later_in taken.1 ≡ later_in rest.entry) }
+    ensures sound { IfSome result (λ taken. cells_no columns.now (op_in rest.entry) ≡ sound) }
+{
+    let [column] = columns else {
+        return None;
+    };
+    let (word, behind) = next_op_word(rest)?;
+    match plain_literal(word, column.kind)? {
+        CellRef::Int(number) => Some((Cell::Int(number), behind)),
+        _ => None,
+    }
+}
+
 /// Reads the key that an operation begins with: its cells in place of those of a vector, and the encoded key in place of
 /// the bytes of a buffer. Gives what is left of the line behind them.
 pub fn take_key_into<'a>(
@@ -228,7 +246,13 @@ pub fn take_key_into<'a>(
     ensures later { IfOk result (λ left. later_in left ≡ later_in rest.entry) }
     ensures least { OnOk result (no.new ≡ min no.old (key_no schema.now (op_in rest.entry))) }
 {
-    let left = take_cells(alloc, key_columns(schema), rest, cells, no)?;
+    let columns = key_columns(schema);
+    if let Some((cell, left)) = lone_number(columns, rest) {
+        no.note(None);
+        spell_key(schema, &[cell], key, no)?;
+        return Ok(left);
+    }
+    let left = take_cells(alloc, columns, rest, cells, no)?;
     spell_key(schema, cells, key, no)?;
     Ok(left)
 }
