@@ -1,5 +1,5 @@
 -- Where fields of a front stand, the reader stops in the fields that come next exactly at their first fault.
-use Rattle.std.proofs.Common.{◌≡◌, ◌↔◌, ℕ, suc, ◌+◌, ◌-◌, ◌^◌, ◌<◌, ◌≤◌, List, [], ◌∷◌, ◌++◌, length, take, drop, Result, Ok, Err, refl, sym, ap, subst, ◌∙◌, append_assoc, arith, inl, inr, length-append}
+use Rattle.std.proofs.Common.{◌≡◌, ◌↔◌, ℕ, ◌+◌, ◌-◌, ◌^◌, ◌<◌, ◌≤◌, List, [], ◌∷◌, ◌++◌, length, take, drop, Result, Ok, Err, refl, sym, ap, subst, ◌∙◌, append_assoc, arith, inl, inr, length-append}
 use Rattle.std.specs.List.{concat, flat_map}
 use Rattle.std.specs.Int.{w16, to_le_bytes}
 use Rattle.std.proofs.lemmas.Bool.{cases_lt}
@@ -24,14 +24,14 @@ use Rattle.kt_baseset.specs.declared.schema.ColumnShape.{ColumnShape}
 use Rattle.kt_baseset.specs.declared.held.HeldColumn.{HeldColumn}
 use Rattle.kt_baseset.specs.Tables.{shapes_of}
 use Rattle.kt_baseset.specs.Spelling.{shape_bytes, lookup_bytes}
-use Rattle.kt_baseset.specs.Reading.{rows_at, shape_at, next_id, ReadsKeys, ReadsEach, ReadsSome, ReadsColumns, IsKeysFault, in_rows, in_keys, IsOneFault, in_shape, in_blocks, IsEachFault, IsColumnsFault, in_count, in_each, IsLookupFault, in_field, behind, IsFault, of_keys, of_columns, of_lookup, IsRefusal}
+use Rattle.kt_baseset.specs.Reading.{rows_at, shape_at, next_id, ReadsKeys, ReadsEach, ReadsSome, ReadsColumns, in_rows, in_keys, IsOneFault, in_shape, in_blocks, IsEachFault, IsColumnsFault, in_count, in_each, IsLookupFault, in_field, behind, IsFault, of_keys, of_columns, of_lookup, IsRefusal}
 use Rattle.kt_baseset.specs.Fields.{Front, FrontFits, head_fields, shape_fields, list_fields, front_fields, Spelled, Stands, before_rows, before_count, before_column, IsFrontFault, TellsFront}
-use Rattle.kt_baseset.proofs.Shapes.{rows_take, shape_takes}
+use Rattle.kt_baseset.proofs.Shapes.{shape_takes}
 use Rattle.kt_baseset.proofs.Fronts.{rows_read, same_read}
 use Rattle.kt_baseset.proofs.Each.{shape_read, same_shape, count_read, same_count, columns_each, own_count, room_all, next-push, rise-push}
 use Rattle.kt_baseset.proofs.Once.{keys_same}
 use Rattle.kt_baseset.proofs.OnePlace.{never, behind_bytes, no_keys, next_ahead, some_same, no_next, fault_once}
-use Rattle.kt_baseset.proofs.FrontParts.{next_at, IsNext, each_next, columns_at, RowsFit, rows_part, front_of, front_at, front_part, shape_part, Listed, begins, begins_less, many_fail}
+use Rattle.kt_baseset.proofs.FrontParts.{next_at, each_next, columns_at, RowsFit, rows_part, front_of, front_at, front_part, shape_part, Listed, begins, begins_less, many_fail}
 
 tells : Delimited Spelled
 tells = delimited front_at front_fields FrontFits front_part

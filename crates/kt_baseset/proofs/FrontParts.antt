@@ -1,17 +1,17 @@
 -- What stands in front of the blocks as one format, and that what stands of it can go on.
-use Rattle.std.proofs.Common.{◌≡◌, ℕ, zero, suc, ◌+◌, ◌-◌, ◌^◌, ◌<◌, ◌≤◌, Bool, true, false, List, [], ◌∷◌, ◌++◌, length, Result, Ok, Err, refl, sym, ap, subst, ◌∙◌, append_assoc, lit<, arith}
+use Rattle.std.proofs.Common.{◌≡◌, ℕ, zero, suc, ◌+◌, ◌-◌, ◌^◌, ◌<◌, ◌≤◌, Bool, true, false, List, [], ◌∷◌, ◌++◌, length, Result, Err, refl, sym, ap, subst, ◌∙◌, append_assoc, lit<, arith}
 use Rattle.std.specs.List.{concat, flat_map}
 use Rattle.std.specs.Int.{w16, w32, to_le_bytes}
 use Rattle.std.proofs.lemmas.Bool.{eqb-true, leb-true}
 use Rattle.std.proofs.lemmas.List.{append-nil, length-append, length_push}
 use Rattle.std.proofs.lemmas.List.Concat.{flat_map-append, flat_map-cons}
-use Rattle.std.proofs.lemmas.List.Elements.{All-nil, All-cons, All-head, All-tail, All-append}
+use Rattle.std.proofs.lemmas.List.Elements.{All-nil, All-cons, All-append}
 use Rattle.std.proofs.lemmas.List.Folds.{concat-append}
 use Rattle.kt_base.specs.declared.cell.Kind.{Kind}
 use Rattle.kt_base.specs.declared.cell.Kind.TheVariants as kinds
 use Rattle.kt_bytes.specs.Places.{Begins}
 use Rattle.kt_bytes.specs.Reading.{◌>>=◌, number_at, checked_at, many_at, EachAfter}
-use Rattle.kt_bytes.proofs.Numbers.{IsBytes, then_is, wide16, wide32, number_again}
+use Rattle.kt_bytes.proofs.Numbers.{IsBytes, then_is, wide16, wide32}
 use Rattle.kt_bytes.proofs.Formats.{Part, bytes_join}
 use Rattle.kt_bytes.proofs.Leaves.{number_bytes, Passes, number_fields, number_part, any_number, code_fields}
 use Rattle.kt_bytes.proofs.Joins.{both_part, same_part, made_at, made_part, many_part}

@@ -1,16 +1,14 @@
 -- A write at 0, which lies at the mark of a fresh tablet: a replay has it among its changes, and the past that is told from 0 on in its rows.
-use Rattle.std.proofs.Common.{◌≡◌, ◌<◌, ◌≤◌, ◌-◌, ℕ, zero, suc, max, List, [], ◌∷◌, ◌++◌, Some, None, Option, Ok, Err, Result, Bool, true, false, cond, refl, sym, ap, ◌∙◌, subst, arith, T}
-use Rattle.std.specs.Prelude.{nat_le, nat_lt, ◌==◌, is_some}
-use Rattle.std.specs.List.{list_all}
-use Rattle.std.specs.FinMap.Entries.{find, is_sorted}
+use Rattle.std.proofs.Common.{◌≡◌, ◌<◌, ◌-◌, ℕ, zero, suc, max, List, [], ◌∷◌, ◌++◌, Some, None, Option, Ok, Err, Result, Bool, true, false, cond, refl, sym, ap, ◌∙◌, subst, arith, T}
+use Rattle.std.specs.Prelude.{nat_le, ◌==◌, is_some}
+use Rattle.std.specs.FinMap.Entries.{find}
 use Rattle.std.proofs.lemmas.Bool.Decides.{nat_tests}
 use Rattle.kt_history.specs.declared.change.Change.{Change}
 use Rattle.kt_history.specs.declared.operation.RowOp.{RowOp}
-use Rattle.kt_history.specs.declared.target.Target.{Target}
 use Rattle.kt_history.specs.Rows.{Row, Rows, Changes, AreApart, apply, changed, key_cmp}
 use Rattle.kt_history.specs.History.{Past, PastWrite, IsPastUpTo, Rise, row_after, rows_at, raise, with_write}
 use Rattle.kt_history.specs.History.{replay as rows_after}
-use Rattle.kt_history.specs.Operations.{DifferentKeys, effect, effect_on, changes_on}
+use Rattle.kt_history.specs.Operations.{DifferentKeys, effect_on, changes_on}
 use Rattle.kt_history.proofs.KeyLaws.{find-changed}
 use Rattle.kt_history.proofs.RowLaws.{sorted-replay}
 use Rattle.kt_history.proofs.PastLaws.{apart-changes_on}
@@ -28,8 +26,8 @@ use Rattle.kt_content.specs.KeyOps.{KeyOp, op_on, seen, decided, if_fits, played
 use Rattle.kt_histlaws.specs.Flights.{AllOps}
 use Rattle.kt_histlaws.specs.Pending.{has_key}
 use Rattle.kt_content.specs.Rules.{no_rules}
-use Rattle.kt_content.specs.Content.{Shown, SameFrom}
-use Rattle.kt_content.specs.MoreOps.{with_change, with_op, untold, told}
+use Rattle.kt_content.specs.Content.{Shown}
+use Rattle.kt_content.specs.MoreOps.{with_change, with_op, told}
 use Rattle.kt_content.specs.Agreement.{OpsRise}
 use Rattle.kt_content.specs.Opening.{AreWrites}
 use Rattle.kt_content.specs.BareLog.{the_bare_log_is_the_empty_superblock, the_empty_superblock_is_the_bare_log}

@@ -1,5 +1,5 @@
 -- The replay of a log alone, as each key sees it: its content under the superblock of a fresh tablet.
-use Rattle.std.proofs.Common.{◌≡◌, ◌<◌, ◌-◌, ◌⊎◌, inl, inr, ℕ, max, List, [], ◌∷◌, ◌++◌, Some, None, Option, Ok, Err, Result, Bool, true, false, cond, ◌||◌, refl, sym, ap, ◌∙◌, subst, arith}
+use Rattle.std.proofs.Common.{◌≡◌, ◌<◌, ◌-◌, ℕ, max, List, [], ◌∷◌, ◌++◌, Some, None, Option, Ok, Err, Result, Bool, true, false, cond, ◌||◌, refl, sym, ap, ◌∙◌, subst, arith}
 use Rattle.std.specs.Prelude.{is_some, nat_lt}
 use Rattle.std.specs.List.{list_any, list_all}
 use Rattle.std.specs.Ordering.{eq_by_cmp}
@@ -17,23 +17,22 @@ use Rattle.kt_records.specs.declared.entry.Entry.TheVariants.{Replicate, Commit}
 use Rattle.kt_records.specs.declared.entry.CommitRow.{CommitRow}
 use Rattle.kt_journal.specs.Order.{InOrder, last_ts, is_above}
 use Rattle.kt_histlaws.specs.Histories.{past_hist, timeline}
-use Rattle.kt_history.specs.Stores.{Hist, row_of, step_of}
+use Rattle.kt_history.specs.Stores.{Hist}
 use Rattle.kt_histlaws.specs.Pending.{has_key}
 use Rattle.kt_histlaws.specs.Flights.{AllOps}
 use Rattle.kt_histlaws.proofs.Applying.{row-past}
 use Rattle.kt_histlaws.proofs.Pending.{same_key, timeline-up_to, itself}
-use Rattle.kt_loglaws.specs.Replay.{is_in_memory, is_needed, needed_ops, replayed, is_fitting, replay, last_of, commit_of, empty}
+use Rattle.kt_loglaws.specs.Replay.{is_in_memory, is_needed, needed_ops, replayed, is_fitting, replay, last_of, commit_of}
 use Rattle.kt_loglaws.specs.Laws.{with_ops}
-use Rattle.kt_content.specs.Places.{memory, fresh, Held, Moves, moved, and_place, needed_in, or_live, row_before, standing, at_first}
+use Rattle.kt_content.specs.Places.{memory, fresh, Held, Moves, moved, and_place, needed_in, or_live, row_before, standing}
 use Rattle.kt_content.specs.KeyOps.{KeyOp, op_on, seen, may_join, with_move, to_each, to_place, to_live, if_fits, played}
 use Rattle.kt_content.specs.Content.{Shown, UntoldLiveOnce, AboveFiles, changed_in}
 use Rattle.kt_content.specs.MoreOps.{untold, told, with_change, with_op}
 use Rattle.kt_content.specs.Opening.{AreWrites}
 use Rattle.kt_content.proofs.MoreOps.{operation_more, before_is}
 use Rattle.kt_content.proofs.Records.{KeyOf, key_of, up_to_under, none_grown, op_grown, each_grown, ends_grown, ends_later, mark_stays}
-use Rattle.kt_content.proofs.Fresh.{fresh_empty, nothing_shown}
 use Rattle.kt_content.proofs.AboveFiles.{all_above}
-use Rattle.kt_content.proofs.Options.{one_alone, or_none, two_oks, is_there}
+use Rattle.kt_content.proofs.Options.{one_alone, two_oks, is_there}
 use Rattle.std.proofs.lemmas.Bool.{and_parts, and_from, or_parts, or_from}
 
 -- a key that is in the one MemRowSet alone

@@ -1,7 +1,7 @@
 -- A superblock and records hold one past at most, as far as a run can tell.
 use Rattle.std.proofs.Common.{◌≡◌, ℕ, ◌≤◌, List, map, Result, Ok, sym, ◌∙◌, subst}
 use Rattle.kt_history.specs.Rows.{Row}
-use Rattle.kt_history.specs.History.{Past, IsPast}
+use Rattle.kt_history.specs.History.{Past}
 use Rattle.kt_history.specs.Stores.{row_of}
 use Rattle.kt_histlaws.specs.Histories.{past_hist, first_some}
 use Rattle.kt_histlaws.proofs.Content.{rows_alike}

@@ -1,24 +1,20 @@
 -- The least key of a base file and the greatest, and what lies outside them.
-use Rattle.std.proofs.Common.{◌≡◌, ◌≢◌, ℕ, zero, suc, ◌-◌, ◌<◌, ◌≤◌, Bool, true, false, ◌&&◌, List, [], ◌∷◌, length, get_or, None, refl, sym, ap, subst, ◌∙◌, arith}
+use Rattle.std.proofs.Common.{◌≡◌, ◌≢◌, ℕ, zero, suc, ◌-◌, ◌<◌, ◌≤◌, Bool, true, false, ◌&&◌, List, [], ◌∷◌, length, refl, sym, ap, subst, ◌∙◌, arith}
 use Rattle.std.specs.List.{AllByRecursion}
 use Rattle.std.specs.Ordering.{is_le}
-use Rattle.std.specs.declared.cmp.Ordering.TheVariants.{Less, Equal, Greater}
+use Rattle.std.specs.declared.cmp.Ordering.TheVariants.{Less}
 use Rattle.std.specs.Cmp.{tied_itself}
 use Rattle.std.specs.Cmp.Lexicographic.{nat_list_cmp_total}
 use Rattle.std.proofs.lemmas.Bool.{false≢true}
 use Rattle.kt_history.specs.Rows.{Row, Rows, key_cmp}
-use Rattle.kt_history.specs.Stores.{hist_in, last_row}
 use Rattle.kt_history.specs.Views.{AreRising}
 use Rattle.kt_baseset.specs.Rows.{keys_in}
 use Rattle.kt_baseset.specs.Tables.{key_at}
 use Rattle.kt_baseset.specs.declared.rows.KeyedRow.{KeyedRow}
-use Rattle.kt_pool.specs.Contents.{Contents}
 use Rattle.kt_rowfiles.proofs.Places.{row_missed}
-use Rattle.kt_diskrowset.specs.declared.rowset.DiskRowSet.{DiskRowSet}
-use Rattle.kt_diskrowset.specs.Held.{keys_held}
 use Rattle.kt_diskrowset.specs.Laws.{rows_are_of_keys}
 use Rattle.kt_diskrowset.specs.Rows.{rows_of}
-use Rattle.kt_diskrowset.specs.Rowset.{files_of, fresh_of, held_of}
+use Rattle.kt_diskrowset.specs.Rowset.{files_of, fresh_of}
 use Rattle.kt_diskrowset.proofs.Histories.{nothing_there}
 
 -- a key that is the least where there is one, and empty where there is none

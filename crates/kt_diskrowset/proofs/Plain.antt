@@ -1,5 +1,5 @@
 -- A disk rowset as plain data: the changes of a row in a list, and the keys above another.
-use Rattle.std.proofs.Common.{◌≡◌, ◌≢◌, ◌≤◌, ◌<◌, ◌-◌, ◌+◌, ℕ, zero, suc, true, false, cond, List, [], ◌∷◌, take, drop, length, get_or, drop-cons, Option, Some, None, refl, sym, ap, ◌∙◌, inl, inr, arith}
+use Rattle.std.proofs.Common.{◌≡◌, ◌≤◌, ◌<◌, ◌-◌, ◌+◌, ℕ, zero, suc, true, false, cond, List, [], ◌∷◌, take, drop, length, get_or, drop-cons, Option, Some, None, refl, sym, ap, ◌∙◌, inl, inr, arith}
 use Rattle.std.specs.Prelude.{Bool, nat_le, nat_lt, slice_get}
 use Rattle.std.specs.List.{find}
 use Rattle.std.specs.List.Sorted.{IsPartitionPoint}
@@ -21,7 +21,6 @@ use Rattle.kt_baseset.specs.Rows.{keys_in}
 use Rattle.kt_baseset.specs.Tables.{key_at}
 use Rattle.kt_rowfiles.specs.Files.{records_for}
 use Rattle.kt_rowfiles.specs.Reading.{step_in, steps_in}
-use Rattle.kt_histlaws.proofs.OneKey.{after_steps-append}
 use Rattle.kt_diskrowset.proofs.OneRow.{own_are}
 
 -- ---- the changes of one row among those of all rows, which are in the order of these

@@ -1,5 +1,5 @@
 -- A change of a log that is taken again, and the row just before it.
-use Rattle.std.proofs.Common.{◌≡◌, ◌≢◌, ◌<◌, ◌≤◌, ℕ, suc, Bool, true, false, cond, List, [], ◌∷◌, ◌++◌, inl, inr, Option, Some, None, refl, sym, ap, subst, ◌∙◌, arith}
+use Rattle.std.proofs.Common.{◌≡◌, ◌≢◌, ◌<◌, ◌≤◌, ℕ, suc, Bool, true, false, cond, List, [], ◌∷◌, ◌++◌, inl, inr, Some, None, refl, sym, ap, subst, ◌∙◌, arith}
 use Rattle.std.proofs.lemmas.Bool.{cases_lt}
 use Rattle.kt_history.specs.declared.change.Change.{Change}
 use Rattle.kt_history.specs.declared.operation.RowOp.{RowOp}
@@ -16,7 +16,7 @@ use Rattle.kt_pool.specs.Contents.{Contents}
 use Rattle.kt_rowfiles.specs.Files.{DiskRowset, row_under, records_in, falling}
 use Rattle.kt_diskrowset.specs.declared.rowset.DiskRowSet.{DiskRowSet}
 use Rattle.kt_diskrowset.specs.Rows.{Fresh, hist_found, store_with}
-use Rattle.kt_diskrowset.specs.Rowset.{files_of, fresh_of, store_of}
+use Rattle.kt_diskrowset.specs.Rowset.{files_of, fresh_of}
 use Rattle.kt_diskrowset.specs.Joining.{Joined, KeyUnder, Rejoined}
 use Rattle.kt_diskrowset.proofs.Histories.{keys_under, hist_is}
 use Rattle.kt_diskrowset.proofs.Rowsets.{store_rejoined}

@@ -1,5 +1,5 @@
 -- A disk rowset that a job has rewritten: it tells the same, and its DeltaMemStores have given their cells back.
-use Rattle.std.proofs.Common.{◌≡◌, ◌<◌, ◌+◌, ℕ, List, [], ◌∷◌, ◌++◌, length, get_or, append_assoc, inl, inr, refl, sym, ap, subst, ◌∙◌, arith}
+use Rattle.std.proofs.Common.{◌≡◌, ◌+◌, ℕ, List, [], ◌∷◌, ◌++◌, length, inl, inr, sym, ap, subst, ◌∙◌, arith}
 use Rattle.std.proofs.lemmas.List.{append-nil}
 use Rattle.kt_pool.specs.Contents.{Contents, at_cell, used}
 use Rattle.kt_dms.specs.declared.store.DeltaMem.{DeltaMem}
@@ -15,7 +15,6 @@ use Rattle.kt_diskrowset.specs.Mems.{AllStand, AreApart, OwnedBy, steps_in_mems,
 use Rattle.kt_diskrowset.specs.Rewriting.{IsSettled}
 use Rattle.kt_diskrowset.specs.Rows.{UndosLeadBack, store_with}
 use Rattle.kt_diskrowset.specs.Rowset.{mems_of, files_of, fresh_of, store_of, name_of, IsStore, Owns, cells_had}
-use Rattle.kt_diskrowset.proofs.Beside.{stand_front, apart_front}
 use Rattle.kt_diskrowset.proofs.Histories.{hists_same}
 use Rattle.kt_diskrowset.proofs.Leaving.{one_leaves, emptied_before}
 

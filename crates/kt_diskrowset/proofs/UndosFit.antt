@@ -3,10 +3,10 @@ use Rattle.std.proofs.Common.{◌≡◌, ◌≤◌, ◌<◌, ◌+◌, ◌^◌, �
 use Rattle.std.proofs.lemmas.List.{drop_all, length-map}
 use Rattle.kt_baseset.specs.declared.rows.KeyedRow.{KeyedRow}
 use Rattle.kt_baseset.specs.Tables.{key_at, cells_in}
-use Rattle.kt_history.specs.Rows.{Row, Rows}
+use Rattle.kt_history.specs.Rows.{Rows}
 use Rattle.kt_histlaws.specs.Disks.{AreUndos}
-use Rattle.kt_rowfiles.specs.Files.{DiskRowset, row_under, records_in, falling}
-use Rattle.kt_rowfiles.specs.Fitting.{steps_fit, rows_fit, undos_fit, readable}
+use Rattle.kt_rowfiles.specs.Files.{DiskRowset, records_in, falling}
+use Rattle.kt_rowfiles.specs.Fitting.{steps_fit, rows_fit, undos_fit}
 use Rattle.kt_rowfiles.proofs.Fitting.{fit_by_row}
 use Rattle.kt_rowfiles.proofs.Ordered.{lead_back}
 use Rattle.kt_diskrowset.specs.Rows.{rows_of, UndosLeadBack}

@@ -4,7 +4,6 @@ use Rattle.std.specs.Prelude.{◌==◌}
 use Rattle.std.specs.List.{filter}
 use Rattle.std.proofs.lemmas.List.{append-nil}
 use Rattle.kt_history.specs.declared.changes.Delta.{Delta}
-use Rattle.kt_history.specs.Stores.{Steps}
 use Rattle.kt_pool.specs.Contents.{Contents}
 use Rattle.kt_rowfiles.specs.Files.{records_for}
 use Rattle.kt_dms.specs.declared.store.DeltaMem.{DeltaMem}

@@ -15,7 +15,7 @@ use Rattle.kt_deltafile.specs.Reading.{file_of}
 use Rattle.kt_deltafile.proofs.Files.{file_again}
 use Rattle.kt_diskrowset.specs.Rowset.{HeldFiles}
 use Rattle.kt_files.specs.Bytes.{bytes_of}
-use Rattle.kt_files.specs.Reading.{HoldsBase, HoldsDeltas, HoldEach, HoldsRowset, HoldAll}
+use Rattle.kt_files.specs.Reading.{HoldsBase, HoldsDeltas, HoldEach, HoldsRowset}
 use Rattle.kt_files.specs.Laws.{files_hold_one}
 
 two_oks : {A E : Type 0} (x : Result A E) (a b : A) → x ≡ Ok a → x ≡ Ok b → a ≡ b

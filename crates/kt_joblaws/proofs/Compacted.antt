@@ -6,11 +6,10 @@ use Rattle.std.proofs.lemmas.List.Elements.{filter-append}
 use Rattle.std.proofs.lemmas.List.{map-append, append-nil}
 use Rattle.kt_history.specs.declared.target.Target.{Target}
 use Rattle.kt_history.specs.declared.target.Target.TheVariants.{Mem, Delta}
-use Rattle.kt_history.specs.Rows.{Row}
 use Rattle.kt_history.specs.Stores.{Hist, row_of, step_of, never}
 use Rattle.kt_records.specs.declared.entry.Entry.{Entry}
 use Rattle.kt_histlaws.specs.Fitting.{AreSound}
-use Rattle.kt_histlaws.specs.Histories.{first_some, or_else, AtMostOne}
+use Rattle.kt_histlaws.specs.Histories.{first_some, AtMostOne}
 use Rattle.kt_histlaws.specs.Jobs.{AreAlike}
 use Rattle.kt_rowfiles.specs.Files.{DiskRowset, hist_in_files}
 use Rattle.kt_content.specs.Rules.{Rules, RowsetsPass}
@@ -29,7 +28,7 @@ use Rattle.kt_content.proofs.OneVisit.{at_rest_stands}
 use Rattle.kt_content.proofs.Lending.{alike_to_never}
 use Rattle.kt_content.proofs.StoresCome.{others_keep}
 use Rattle.kt_joblaws.specs.ChangesOver.{hists_of, in_memory}
-use Rattle.kt_joblaws.specs.Compacts.{is_taken, taken_in, left_in, left_rowsets, compacted, after_compaction, AreOf, CompactsOver, a_compaction_changes_over}
+use Rattle.kt_joblaws.specs.Compacts.{taken_in, left_in, left_rowsets, compacted, after_compaction, AreOf, CompactsOver, a_compaction_changes_over}
 use Rattle.kt_joblaws.proofs.Among.{HasSome, same_first, has_front, has_behind, has_either}
 use Rattle.kt_joblaws.proofs.Groups.{group-append, skip, last_more, none_from, mem_at, rowset_at, other_at, outputs_none, outputs_memory, outputs_below, outputs_stand, all_named}
 

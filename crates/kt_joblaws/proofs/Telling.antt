@@ -1,6 +1,6 @@
 -- A disk rowset of the columns of a table tells the table.
-use Rattle.std.proofs.Common.{◌≡◌, ◌<◌, ℕ, suc, Bool, true, false, cond, List, [], ◌∷◌, ◌++◌, Some, None, Option, length, unwrap_or, inl, arith}
-use Rattle.std.specs.Prelude.{◌==◌, is_some, nat_lt, All}
+use Rattle.std.proofs.Common.{ℕ, suc, Bool, true, false, cond, List, [], ◌∷◌, ◌++◌, Some, None, Option, unwrap_or, inl, arith}
+use Rattle.std.specs.Prelude.{◌==◌, is_some, nat_lt}
 use Rattle.std.specs.List.{AllByRecursion, filter}
 use Rattle.std.specs.Ordering.{eq_by_cmp, nat_cmp}
 use Rattle.std.specs.FinMap.Entries.{find}
@@ -8,7 +8,7 @@ use Rattle.kt_base.specs.declared.cell.Cell.{Cell}
 use Rattle.kt_history.specs.declared.change.Change.{Change}
 use Rattle.kt_history.specs.declared.change.Change.TheVariants.{Ins, Upd, Del}
 use Rattle.kt_history.specs.declared.changes.Delta.{Delta}
-use Rattle.kt_history.specs.Rows.{Row, key_cmp, apply, undo, cells_under}
+use Rattle.kt_history.specs.Rows.{Row, key_cmp, apply, undo}
 use Rattle.kt_history.specs.Stores.{Steps, Hist, never, hist_in}
 use Rattle.kt_histlaws.specs.Disks.{before_all, led_over}
 use Rattle.kt_rowfiles.specs.Files.{records_for, records_in, put_rising, put_falling, rising, falling}

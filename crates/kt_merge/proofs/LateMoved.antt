@@ -16,7 +16,6 @@ use Rattle.kt_baseset.specs.declared.rows.KeyedRow.{KeyedRow}
 use Rattle.kt_baseset.specs.Rows.{keys_in}
 use Rattle.kt_baseset.specs.Tables.{key_at, cells_in}
 use Rattle.kt_rowfiles.specs.Files.{row_under, records_for, records_in}
-use Rattle.kt_diskrowset.specs.declared.data.RowSetData.{RowSetData}
 use Rattle.kt_diskrowset.specs.declared.files.FileHeld.{FileHeld}
 use Rattle.kt_diskrowset.specs.Files.{lists_of}
 use Rattle.kt_diskrowset.specs.Rows.{rows_of}

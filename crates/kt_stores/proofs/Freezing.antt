@@ -9,7 +9,7 @@ use Rattle.kt_diskrowset.specs.Rewriting.{IsSettled}
 use Rattle.kt_diskrowset.specs.Rows.{UndosLeadBack, store_with}
 use Rattle.kt_diskrowset.specs.Rowset.{IsStore, Owns, name_of, store_of, cells_had}
 use Rattle.kt_stores.specs.Parts.{shelved}
-use Rattle.kt_stores.specs.Shelf.{Shelved, renamed}
+use Rattle.kt_stores.specs.Shelf.{renamed}
 use Rattle.kt_stores.proofs.Shrinking.{HasShrunk}
 
 module _ (s t : DiskRowSet) (pool : Contents) (closed : DiskRowSet → Bool) (same_closed : closed t ≡ closed s) (st : IsStore s pool) where

@@ -1,15 +1,13 @@
 -- The disk rowset at a place among the stores in their order, as a call reaches it.
-use Rattle.std.proofs.Common.{◌≡◌, ◌<◌, ◌+◌, ◌-◌, ℕ, List, map, length, get_or, Some, sym, ap, subst, ◌∙◌, inr, arith}
+use Rattle.std.proofs.Common.{◌≡◌, ◌<◌, ◌+◌, ◌-◌, ℕ, List, map, length, get_or, Some, sym, ap, ◌∙◌, inr, arith}
 use Rattle.std.specs.Prelude.{slice_get}
 use Rattle.std.specs.Option.{option_map}
-use Rattle.kt_history.specs.declared.target.Target.{Target}
-use Rattle.kt_history.specs.Stores.{Store}
 use Rattle.kt_diskrowset.specs.Rowset.{HeldFiles}
 use Rattle.kt_memrowset.specs.declared.store.MemRowSet.{MemRowSet}
 use Rattle.kt_pool.specs.Contents.{Contents}
 use Rattle.kt_stores.specs.Shelf.{Shelved, StoresView, stores_of, name_at}
 use Rattle.kt_stores.specs.Parts.{kept, stands_by, owns_by, read_by, shelf_of, AreKept}
-use Rattle.kt_stores.proofs.Beside.{some_is, read_at, map_at}
+use Rattle.kt_stores.proofs.Beside.{read_at, map_at}
 use Rattle.kt_stores.proofs.Ordered.{read_is, rowset_at, count, stand_at, stored_at, length-shelf}
 
 module _ {R : Type 0} {files : List HeldFiles} (stands : R → Contents → Type 0) (owns : R → Contents → ℕ → Type 0) (read : R → Contents → Shelved) (active : MemRowSet) (frozen : List MemRowSet) (rowsets : List R) (pool : Contents) (now : StoresView)

@@ -1,5 +1,5 @@
 -- What a maintenance policy asks of the disk rowsets of a tablet.
-use Rattle.std.specs.Prelude.{◌≡◌, ℕ, suc, List, [], ◌∷◌, Some, slice_get}
+use Rattle.std.specs.Prelude.{◌≡◌, ℕ, List, [], ◌∷◌}
 use Rattle.kt_diskrowset.specs.Held.{store_told}
 use Rattle.kt_diskrowset.specs.Rowset.{HeldFiles}
 use Rattle.kt_diskrowset.specs.Stats.{IsStat}

@@ -1,4 +1,4 @@
-use Rattle.std.proofs.Common.{◌∙◌, ◌≤◌, Some, length, ap, sym, arith}
+use Rattle.std.proofs.Common.{◌∙◌, Some, ap, sym, arith}
 use Rattle.kt_baseset.specs.Rows.{keys_in}
 use Rattle.kt_diskrowset.proofs.Histories.{are_rising}
 use Rattle.kt_diskrowset.proofs.Plain.{key_got, no_key}

@@ -1,4 +1,4 @@
-use Rattle.std.proofs.Common.{◌∙◌, ◌≡◌, List, ℕ, Option, drop, sym, ap}
+use Rattle.std.proofs.Common.{◌∙◌, List, Option, sym, ap}
 use Rattle.std.specs.List.{filter}
 use Rattle.std.specs.Option.{option_copied}
 use Rattle.kt_baseset.specs.Rows.{keys_in}

@@ -1,4 +1,4 @@
-use Rattle.std.proofs.Common.{◌≤◌, ◌∙◌, ℕ, List, length, sym}
+use Rattle.std.proofs.Common.{◌∙◌, sym}
 use Rattle.kt_baseset.specs.Rows.{keys_in}
 use Rattle.kt_diskrowset.proofs.Histories.{are_rising}
 use Rattle.kt_diskrowset.proofs.Plain.{keys_count}

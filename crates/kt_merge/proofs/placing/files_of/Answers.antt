@@ -2,7 +2,6 @@ use Rattle.std.proofs.Common.{◌∙◌, List, ap, arith}
 use Rattle.std.specs.List.{flat_map}
 use Rattle.std.proofs.lemmas.List.{take_all}
 use Rattle.kt_history.specs.declared.changes.KeyChange.{KeyChange}
-use Rattle.kt_history.specs.Stores.{Steps}
 use Rattle.kt_histlaws.specs.Fitting.{steps_above}
 use Rattle.kt_rowfiles.specs.Files.{records_in}
 use Rattle.kt_diskrowset.specs.declared.files.FileHeld.{FileHeld}

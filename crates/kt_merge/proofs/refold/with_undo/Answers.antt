@@ -1,7 +1,6 @@
 use Rattle.std.proofs.Common.{◌∙◌, ◌++◌, ◌∷◌, [], List, Option, ap, sym, arith}
 use Rattle.std.proofs.lemmas.List.{append-nil}
 use Rattle.std.proofs.lemmas.Result.{IfOk-weaker}
-use Rattle.kt_history.specs.declared.changes.Delta.{Delta}
 use Rattle.kt_deltafile.specs.File.{FileView}
 use Rattle.kt_rowfiles.specs.Files.{records_for, records_in}
 use Rattle.kt_diskrowset.specs.Files.{lists_of, as_file, as_files}

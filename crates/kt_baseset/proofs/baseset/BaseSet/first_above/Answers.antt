@@ -1,4 +1,4 @@
-use Rattle.std.proofs.Common.{◌<◌, ◌≤◌, ◌∙◌, ℕ, sym, ap, subst, length, arith}
+use Rattle.std.proofs.Common.{◌<◌, ◌≤◌, ℕ, ap, subst, length, arith}
 use Rattle.kt_lookup.specs.Index.{IsBelow}
 use Rattle.kt_baseset.specs.Tables.{BaseValue, keys_of, key_at}
 use Rattle.kt_baseset.proofs.Found.{rows_count, count_keys}

@@ -1,9 +1,7 @@
-use Rattle.std.proofs.Common.{◌∙◌, ◌++◌, ℕ, sym, ap}
+use Rattle.std.proofs.Common.{◌∙◌, ◌++◌, sym, ap}
 use Rattle.std.proofs.lemmas.List.{append-nil}
 use Rattle.std.proofs.lemmas.Result.{IfOk-weaker}
-use Rattle.kt_history.specs.Rows.{Row}
 use Rattle.kt_history.specs.Stores.{Hist, row_of}
-use Rattle.kt_baseset.specs.Tables.{cells_in}
 use Rattle.kt_rowfiles.specs.Reading.{steps_in}
 use Rattle.kt_rowfiles.specs.Taking.{spanned}
 use Rattle.kt_diskrowset.specs.Rows.{hist_found}

@@ -3,7 +3,6 @@ use Rattle.kt_dms.specs.declared.store.DeltaMem.{DeltaMem}
 use Rattle.kt_dms.specs.Stores.{number_of}
 use Rattle.kt_history.specs.declared.target.Target.TheVariants.{Delta}
 use Rattle.kt_diskrowset.specs.declared.rowset.DiskRowSet.{DiskRowSet}
-use Rattle.kt_diskrowset.specs.Jobs.{AreEmptied}
 use Rattle.kt_diskrowset.proofs.Beside.{stand_front, apart_front}
 use Rattle.kt_diskrowset.proofs.Settled.{emptied_all, settled, one_name}
 use Rattle.kt_diskrowset.proofs.rowset.DiskRowSet.settle.Goals as goal

@@ -1,15 +1,14 @@
-use Rattle.std.proofs.Common.{◌≡◌, ◌<◌, ◌+◌, ◌-◌, ◌^◌, ℕ, List, [], ◌∷◌, ◌++◌, length, min, refl, sym, ap, subst, ◌∙◌, arith}
+use Rattle.std.proofs.Common.{◌-◌, ◌^◌, ℕ, List, [], ◌∷◌, length, min, refl, sym, ap, subst, ◌∙◌}
 use Rattle.std.specs.List.{sum_by}
 use Rattle.std.proofs.lemmas.List.{length-map}
 use Rattle.kt_dms.specs.declared.store.DeltaMem.{DeltaMem}
-use Rattle.kt_dms.specs.Stores.{deltas_of}
 use Rattle.kt_diskrowset.specs.declared.files.FileHeld.{FileHeld}
 use Rattle.kt_diskrowset.specs.Files.{as_file}
 use Rattle.kt_diskrowset.specs.Mems.{AllStand}
 use Rattle.kt_diskrowset.specs.Rowset.{mems_of}
 use Rattle.kt_diskrowset.specs.Stats.{changes_had, leaving_row}
 use Rattle.kt_diskrowset.proofs.Beside.{stand_front, last_stands}
-use Rattle.kt_diskrowset.proofs.Statistics.{in_files, had_more, none_had, capped_more, none_capped}
+use Rattle.kt_diskrowset.proofs.Statistics.{in_files, none_had, capped_more, none_capped}
 use Rattle.kt_diskrowset.proofs.Told.{told_bare}
 use Rattle.kt_diskrowset.proofs.rowset.DiskRowSet.stat.Goals as goal
 

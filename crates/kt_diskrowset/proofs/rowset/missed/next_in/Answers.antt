@@ -1,4 +1,4 @@
-use Rattle.std.proofs.Common.{Option, sym, subst}
+use Rattle.std.proofs.Common.{sym, subst}
 use Rattle.kt_dms.specs.Stores.{deltas_of}
 use Rattle.kt_diskrowset.specs.Missed.{Precedes}
 use Rattle.kt_diskrowset.proofs.MissedRows.{row_behind, none_before}

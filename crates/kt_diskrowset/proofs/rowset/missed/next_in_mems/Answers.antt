@@ -1,4 +1,3 @@
-use Rattle.std.proofs.Common.{sym}
 use Rattle.kt_diskrowset.proofs.Copying.{take_more}
 use Rattle.kt_diskrowset.proofs.MemsInTurn.{blank, store_stands}
 use Rattle.kt_diskrowset.proofs.MissedRows.{none_more}

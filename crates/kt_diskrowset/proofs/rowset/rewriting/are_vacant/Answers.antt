@@ -1,4 +1,4 @@
-use Rattle.std.proofs.Common.{[], ◌≡◌, ◌∙◌, List, ap, sym, take, length, arith}
+use Rattle.std.proofs.Common.{◌∙◌, List, ap, sym, take}
 use Rattle.kt_dms.specs.declared.store.DeltaMem.{DeltaMem}
 use Rattle.kt_dms.specs.Stores.{deltas_of}
 use Rattle.kt_diskrowset.specs.Mems.{steps_in_mems}

@@ -1,5 +1,4 @@
-use Rattle.std.proofs.Common.{[], ◌∷◌, subst}
-use Rattle.kt_diskrowset.specs.Jobs.{AreEmptied}
+use Rattle.std.proofs.Common.{subst}
 use Rattle.kt_diskrowset.specs.Mems.{AllStand}
 use Rattle.kt_diskrowset.proofs.Beside.{last_stands}
 use Rattle.kt_diskrowset.proofs.Leaving.{none_emptied}

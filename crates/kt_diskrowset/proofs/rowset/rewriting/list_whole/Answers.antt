@@ -1,4 +1,4 @@
-use Rattle.std.proofs.Common.{◌≡◌, ◌++◌, ◌∙◌, List, length, length-append, ap, sym, arith}
+use Rattle.std.proofs.Common.{◌≡◌, ◌++◌, ◌∙◌, List, length, length-append, ap, arith}
 use Rattle.std.specs.Prelude.{nat_le}
 use Rattle.kt_history.specs.declared.changes.Delta.{Delta}
 use Rattle.kt_dms.specs.Stores.{deltas_of, deltas_upto}

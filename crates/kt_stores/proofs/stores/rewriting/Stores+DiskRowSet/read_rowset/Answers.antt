@@ -1,4 +1,4 @@
-use Rattle.std.proofs.Common.{◌≡◌, ◌∙◌, true, Some, refl, sym, ap}
+use Rattle.std.proofs.Common.{◌∙◌, true, Some, refl, sym, ap}
 use Rattle.std.proofs.lemmas.Result.{IfOk-weaker}
 use Rattle.kt_history.specs.Stores.{Store}
 use Rattle.kt_diskrowset.specs.Rowset.{HeldFiles}

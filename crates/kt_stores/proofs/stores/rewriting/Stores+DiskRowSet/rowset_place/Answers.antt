@@ -1,9 +1,9 @@
-use Rattle.std.proofs.Common.{◌≡◌, ◌+◌, ◌-◌, ◌∙◌, ℕ, List, map, length, Some, None, true, sym, ap, arith}
+use Rattle.std.proofs.Common.{◌≡◌, ◌+◌, ◌-◌, ◌∙◌, ℕ, List, length, Some, None, true, sym, ap, arith}
 use Rattle.std.specs.Prelude.{◌==◌}
 use Rattle.std.specs.List.{position}
 use Rattle.std.specs.Option.{option_map}
 use Rattle.kt_diskrowset.specs.declared.rowset.DiskRowSet.{DiskRowSet}
-use Rattle.kt_diskrowset.specs.Rowset.{HeldFiles, held_of, name_of, store_of, cells_had}
+use Rattle.kt_diskrowset.specs.Rowset.{HeldFiles, name_of, store_of, cells_had}
 use Rattle.kt_stores.specs.Parts.{shelved}
 use Rattle.kt_stores.specs.Shelf.{Shelved, StoresView, is_rowset}
 use Rattle.kt_stores.proofs.Numbered.{numbered, filed}

@@ -1,4 +1,4 @@
-use Rattle.std.proofs.Common.{◌≡◌, ◌∙◌, true, Some, sym, ap}
+use Rattle.std.proofs.Common.{◌∙◌, true, Some, sym, ap}
 use Rattle.kt_history.specs.declared.target.Target.{Target}
 use Rattle.kt_diskrowset.specs.Rowset.{IsStore, Owns, name_of, store_of, cells_had}
 use Rattle.kt_stores.specs.Parts.{shelved}

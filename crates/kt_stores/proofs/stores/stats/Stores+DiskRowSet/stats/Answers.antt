@@ -1,4 +1,4 @@
-use Rattle.std.proofs.Common.{◌≡◌, ◌+◌, ◌<◌, ◌∙◌, suc, List, map, take, drop, length, get_or, sym, ap, subst}
+use Rattle.std.proofs.Common.{◌≡◌, ◌+◌, ◌<◌, ◌∙◌, suc, List, map, take, drop, length, get_or, sym, subst}
 use Rattle.std.proofs.lemmas.List.{take_all}
 use Rattle.kt_diskrowset.specs.declared.rowset.DiskRowSet.{DiskRowSet}
 use Rattle.kt_diskrowset.specs.Held.{store_told}
