@@ -1,6 +1,7 @@
 -- Write lines: what a line says of its operations, and why it is refused.
-use Rattle.std.specs.Prelude.{◌≡◌, ℕ, ◌+◌, min, Bool, true, false, not, ◌&&◌, ◌||◌, List, [], ◌∷◌, ◌++◌, length, drop, map, Option, Some, None, is_some, if◌then◌else◌, ◌==◌, nat_lt, codes}
+use Rattle.std.specs.Prelude.{◌≡◌, ℕ, ◌+◌, min, Bool, true, false, not, ◌&&◌, ◌||◌, List, [], ◌∷◌, ◌++◌, length, drop, take, map, Option, Some, None, is_some, if◌then◌else◌, ◌==◌, nat_lt, codes}
 use Rattle.std.proofs.Common.{Bor}
+use Rattle.std.specs.Int.{w64, from_be_bytes}
 use Rattle.std.specs.List.{list_any, before_first, onto_first}
 use Rattle.std.specs.Ordering.{nat_cmp}
 use Rattle.std.specs.FinMap.Entries.{put}
@@ -154,6 +155,10 @@ ops_of (word ∷ words) = if same word (codes ";") then [] ∷ ops_of words else
 abbrev pub ops_no : List Column → List (List (List ℕ)) → ℕ
 ops_no columns [] = sound
 ops_no columns (words ∷ ops) = min (op_no columns words) (ops_no columns ops)
+
+-- the number that the first eight bytes of a key spell
+abbrev pub front : List ℕ → ℕ
+front key = from_be_bytes w64 (take 8 key)
 
 abbrev pub twice : List (List ℕ) → Bool
 twice [] = false

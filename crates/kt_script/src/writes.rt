@@ -1,6 +1,6 @@
 //! Write lines.
 
-ghost use Rattle.std.specs.Prelude.{◌≡◌, ◌<◌, ◌≤◌, ◌+◌, ◌++◌, ◌∷◌, [], min, map, drop, length, nat_lt, IfOk, OnOk, IsTrue, false};
+ghost use Rattle.std.specs.Prelude.{◌≡◌, ◌<◌, ◌≤◌, ◌+◌, ◌++◌, ◌∷◌, [], min, map, drop, length, nat_lt, IfOk, IfSome, OnOk, IsTrue, false};
 ghost use Rattle.std.specs.List.{list_any};
 ghost use Rattle.std.specs.Ordering.{nat_cmp, is_lt};
 ghost use Rattle.std.specs.Cmp.Lexicographic.{slice_cmp};
@@ -14,7 +14,7 @@ ghost use Rattle.kt_script.specs.declared.forms.OpForm.TheVariants as form;
 ghost use Rattle.kt_script.specs.Columns.{IsTable};
 ghost use Rattle.kt_script.specs.Reasons.{no_of, reason_if};
 ghost use Rattle.kt_script.specs.Buffers.{Spells, HasSpelling, spelled_op, line_ops, line_command, IsLineRead, IsLine, ReadsLine};
-ghost use Rattle.kt_script.specs.Writes.{rest_no, rest_cells, behind_no, op_form, op_no, op_of, op_said, ops_of, ops_no, many_no, twice, first_op, later_ops, words_cut, ops_cut, op_in, later_in, ops_in, write_no, write_of};
+ghost use Rattle.kt_script.specs.Writes.{front, rest_no, rest_cells, behind_no, op_form, op_no, op_of, op_said, ops_of, ops_no, many_no, twice, first_op, later_ops, words_cut, ops_cut, op_in, later_in, ops_in, write_no, write_of};
 
 use crate::columns::LineNo;
 use crate::forms::{OpForm, op_form, op_kind};
@@ -316,6 +316,39 @@ fn are_rising(ops: &OpList) -> bool
     true
 }
 
+// The number that the first eight bytes of a key spell, if it has so many.
+fn front_of(key: &[u8]) -> Option<u64>
+    ensures { IfSome result (λ n. n ≡ front key.now) }
+{
+    match key.first_chunk::<8>() {
+        Some(front) => Some(u64::from_be_bytes(*front)),
+        None => None,
+    }
+}
+
+// Whether the first eight bytes of each key are above those of the key before it, so that none stands twice.
+fn have_rising_fronts(ops: &OpList) -> bool
+    ensures { IsTrue result → twice (map (λ (o : RowOp). o.key) ops.now) ≡ false }
+{
+    if ops.is_empty() {
+        return true;
+    }
+    let Some(first) = front_of(ops.at(0).key()) else {
+        return false;
+    };
+    let mut last = first;
+    'ops: for at in 1..ops.len() {
+        let Some(front) = front_of(ops.at(at).key()) else {
+            return false;
+        };
+        if front <= last {
+            return false;
+        }
+        last = front;
+    }
+    true
+}
+
 // Whether two operations have one key, by each two of them.
 fn is_twice_among(ops: &OpList) -> bool
     ensures { result ≡ twice (map (λ (o : RowOp). o.key) ops.now) }
@@ -337,7 +370,7 @@ fn is_twice(ops: &OpList) -> bool
     if few {
         return false;
     }
-    !are_rising(ops) && is_twice_among(ops)
+    !have_rising_fronts(ops) && !are_rising(ops) && is_twice_among(ops)
 }
 
 fn twice_no(ops: &OpList) -> Option<u8>
