@@ -134,6 +134,7 @@ pub fn head_of(key: &[u8]) -> Head
 }
 
 /// The order of a node's key and another, told how that begins. The keys themselves are compared only where they begin alike.
+#[inline(always)]
 pub fn order(pool: &Pool, node: &Node, key: &[u8], head: Head) -> Ordering
     requires stands { Stands pool.now node.now.key }
     requires head { node.now.head ≡ head_of (bytes_at pool.now node.now.key) }
