@@ -13,8 +13,8 @@ ghost use Rattle.kt_storeside.specs.Supers.{NamedStand};
 
 use kt_app::tablet_main;
 use kt_base::Clock;
-use kt_disk::{Disk, MemDisk, PassGate};
-use kt_host::{BoxedDisk, DirDisk, MachineClock, Stdin, Stdout, Taken, Ticks};
+use kt_disk::{Disk, PassGate};
+use kt_host::{BoxedDisk, DirDisk, MachineClock, RamDisk, Stdin, Stdout, Taken, Ticks};
 use kt_run_check::check_main;
 use std::alloc::AllocError;
 use std::io::ErrorKind;
@@ -87,8 +87,8 @@ fn run_in_memory<R: Threads + Wait + Sync>(rt: &HostRuntime, threads: &R, words:
         rt,
         threads,
         words,
-        MemDisk::new(alloc),
-        MemDisk::new(alloc),
+        RamDisk::new(alloc),
+        RamDisk::new(alloc),
         Ticks::new(),
     )
 }
