@@ -1,12 +1,12 @@
 -- Reading a base file from left to right. A fault is told by how many bytes stand from its place to the end: none
 -- where bytes are missing, and all from its first byte on where a field is wrong as a whole.
-use Rattle.std.specs.Prelude.{◌≡◌, ℕ, zero, suc, ◌+◌, ◌-◌, ◌^◌, ◌<◌, ◌≤◌, ◌&&◌, ◌==◌, nat_lt, nat_le, Bool, List, [], ◌∷◌, ◌++◌, length, Result, Ok, Err}
+use Rattle.std.specs.Prelude.{◌≡◌, ℕ, zero, suc, ◌+◌, ◌-◌, ◌^◌, ◌<◌, ◌≤◌, ◌&&◌, ◌==◌, nat_lt, nat_le, Bool, List, [], ◌∷◌, ◌++◌, length, Result, Ok, Err, if◌then◌else◌}
 use Rattle.std.specs.Int.{w16, w32}
 use Rattle.kt_base.specs.declared.cell.Kind.{Kind}
 use Rattle.kt_base.specs.declared.cell.Kind.TheVariants as kinds
 use Rattle.kt_bytes.specs.declared.fault.Stop.{Stop}
 use Rattle.kt_bytes.specs.declared.fault.Stop.TheVariants as stops
-use Rattle.kt_bytes.specs.Reading.{number_at, checked_at}
+use Rattle.kt_bytes.specs.Reading.{◌>>=◌, number_at, checked_at}
 use Rattle.kt_cells.specs.Reading.{flag_at}
 use Rattle.kt_column.specs.declared.errors.CodecNo.TheVariants as column
 use Rattle.kt_column.specs.declared.form.Form.{Form}

@@ -6,7 +6,7 @@ use Rattle.std.specs.Int.{w32, w64}
 use Rattle.kt_history.specs.declared.change.Change.{Change}
 use Rattle.kt_history.specs.declared.change.Change.TheVariants.{Ins, Upd, Del}
 use Rattle.kt_history.specs.declared.changes.Delta.{Delta}
-use Rattle.kt_bytes.specs.Reading.{checked_at, many_at, with_offset}
+use Rattle.kt_bytes.specs.Reading.{◌>>=◌, checked_at, many_at, with_offset}
 use Rattle.kt_cells.specs.Reading.{cells_at}
 use Rattle.kt_deltafile.specs.declared.file.Way.{Way}
 use Rattle.kt_deltafile.specs.declared.file.Way.TheVariants.{Redo, Undo}

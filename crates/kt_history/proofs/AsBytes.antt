@@ -46,7 +46,7 @@ is_in n h key cells = both (is_part n h.key) (is_part n h.cells) (is_le (ends h.
 
 module _ (bytes more : List ℕ) where
   -- a part of the bytes before stays
-  stays : (p : Part) → ends p ≤ length bytes → part_of (bytes ++ more) p ≡ part_of bytes p
+  pub stays : (p : Part) → ends p ≤ length bytes → part_of (bytes ++ more) p ≡ part_of bytes p
   stays p le = ap (take p.len) (drop-append-le p.from bytes more (omega arith)) ∙ take-append-le p.len (drop p.from bytes) more (omega (arith, length-drop p.from bytes))
 
   -- and what was added is a part

@@ -6,12 +6,14 @@ ghost use Rattle.std.specs.Ordering.{is_lt};
 ghost use Rattle.std.specs.Int.{w64, from_be_bytes, to_be_bytes};
 ghost use Rattle.kt_history.specs.Rows.{key_cmp};
 ghost use Rattle.kt_cells.specs.Reading.{cells_behind};
+ghost use Rattle.kt_pool.specs.Contents.{Stands, bytes_at};
 ghost use Rattle.kt_history.specs.declared.change_list.Head.{Head as HeadSpec};
 ghost use Rattle.kt_history.specs.AsBytes.{change_with, part_of, changes_at, are_inside, last_key, AreTold, IsToldNext, step_in, step_of};
 
 use crate::Kindly;
 use kt_base::NoMemory;
 use kt_cells::CellsRef;
+use kt_pool::{Place, Pool};
 use std::alloc::Global;
 use std::marker::Model;
 
@@ -146,6 +148,53 @@ fn add(
     let from = bytes.len();
     let len = cells.len();
     bytes.extend_from_slice(cells)?;
+    heads.push_reserved(Head {
+        key,
+        cells: Part { from, len },
+        ts,
+        kind,
+    });
+    Ok(())
+}
+
+// Adds the bytes of a place of the pool.
+fn append_placed(pool: &Pool, place: Place, bytes: &mut Vec<u8>) -> Result<(), NoMemory>
+    requires { Stands pool.now place.cell }
+    ensures ok { OnOk result (bytes.new.items ≡ bytes.old.items ++ bytes_at pool.now place.cell) }
+    ensures err { OnErr result (bytes.new.items ≡ bytes.old.items) }
+{
+    match pool.append_to(place, bytes) {
+        Ok(()) => Ok(()),
+        Err(_) => Err(NoMemory),
+    }
+}
+
+// As `add`, with the cells that stand in a place of the pool behind so many bytes. All bytes of the place are copied.
+fn add_placed(
+    bytes: &mut Vec<u8>,
+    heads: &mut Vec<Head>,
+    key: Part,
+    ts: u64,
+    kind: Kindly,
+    pool: &Pool,
+    place: Place,
+    front: usize,
+) -> Result<(), NoMemory>
+    requires stands { Stands pool.now place.cell }
+    requires front { front ≤ length (bytes_at pool.now place.cell) }
+    requires known { key.from + key.len ≤ length bytes.old.items }
+    requires inside { are_inside (length bytes.old.items) heads.old.items ≡ true }
+    requires told { AreTold bytes.old.items heads.old.items }
+    requires next { IsToldNext bytes.old.items heads.old.items key }
+    ensures ok { OnOk result (changes_at bytes.new.items heads.new.items ≡ changes_at bytes.old.items heads.old.items ++ (record { key = part_of bytes.old.items key; ts = ts; change = change_with kind (cells_behind (drop front (bytes_at pool.now place.cell))) }) ∷ []) }
+    ensures err { OnErr result (changes_at bytes.new.items heads.new.items ≡ changes_at bytes.old.items heads.old.items) }
+    ensures inside { are_inside (length bytes.new.items) heads.new.items ≡ true }
+    ensures told { AreTold bytes.new.items heads.new.items }
+{
+    heads.reserve(1)?;
+    append_placed(pool, place, bytes)?;
+    let len = pool.len(place) - front;
+    let from = bytes.len() - len;
     heads.push_reserved(Head {
         key,
         cells: Part { from, len },
@@ -311,6 +360,34 @@ impl ChangeList {
     {
         let at = place_of(&mut self.bytes, &self.heads, key)?;
         add(&mut self.bytes, &mut self.heads, at, ts, kind, cells)
+    }
+
+    /// As `push`, with the cells that stand in a place of the pool behind so many bytes. They are copied once, from cell to cell.
+    pub fn push_placed(
+        &mut self,
+        key: &[u8],
+        ts: u64,
+        kind: Kindly,
+        pool: &Pool,
+        place: Place,
+        front: usize,
+    ) -> Result<(), NoMemory>
+        requires stands { Stands pool.now place.cell }
+        requires front { front ≤ length (bytes_at pool.now place.cell) }
+        ensures ok { OnOk result (self.new ≡ self.old ++ (record { key = key.now; ts = ts; change = change_with kind (cells_behind (drop front (bytes_at pool.now place.cell))) }) ∷ []) }
+        ensures err { OnErr result (self.new ≡ self.old) }
+    {
+        let at = place_of(&mut self.bytes, &self.heads, key)?;
+        add_placed(
+            &mut self.bytes,
+            &mut self.heads,
+            at,
+            ts,
+            kind,
+            pool,
+            place,
+            front,
+        )
     }
 
     /// Adds a change of the key that the last one is of, as `push` does.

@@ -14,7 +14,7 @@ use Rattle.kt_history.specs.declared.target.Target.TheVariants as stores
 use Rattle.kt_records.specs.declared.entry.CommitRow.{CommitRow}
 use Rattle.kt_records.specs.declared.entry.Entry.{Entry}
 use Rattle.kt_records.specs.declared.entry.Entry.TheVariants.{Replicate, Commit}
-use Rattle.kt_bytes.specs.Reading.{number_at, checked_at, bytes_at, many_at, with_offset}
+use Rattle.kt_bytes.specs.Reading.{◌>>=◌, number_at, checked_at, bytes_at, many_at, with_offset}
 pub use Rattle.kt_cells.specs.Reading.{flag_at, cell_at, is_next_id, listed_cell_at, cells_at}
 use Rattle.kt_records.specs.Rules.{may_list, has_key, may_change, may_hold}
 
