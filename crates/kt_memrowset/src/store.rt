@@ -15,6 +15,15 @@ use kt_pool::{Place, Pool};
 use kt_tree::{Seat, Tree};
 use std::alloc::Global;
 
+// Makes room for the changes of the other rows, on the scale of those that are listed, when some are listed and again when many are.
+fn room_for_rest(list: &mut ChangeList, listed: u32, rows: u32)
+    ensures { list.new ≡ list.old }
+{
+    if matches!(listed, 64 | 4_096 | 262_144 | 16_777_216) {
+        list.make_room(listed as usize, rows.saturating_sub(listed) as usize);
+    }
+}
+
 /// Rows in the cells of a pool. It gives them back by `empty_into` only.
 #[derive(Drop)]
 pub struct MemRowSet {
@@ -233,7 +242,9 @@ impl MemRowSet {
         let mut keys = Vec::new(alloc);
         let mut buffer = Vec::new(alloc);
         let mut walk = self.tree.walk(alloc);
-        'rows: for _ in 0..self.tree.len() {
+        let rows = self.tree.len();
+        'rows: for at in 0..rows {
+            room_for_rest(&mut list, at, rows);
             let Ok(next) = walk.next(pool) else {
                 return Err(NoMemory);
             };
