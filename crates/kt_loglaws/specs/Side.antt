@@ -1,6 +1,6 @@
 -- What a contract sees of the log of an engine: the records that are durable, those that a pass has out, and those queued.
 use Rattle.std.specs.Prelude.{◌≡◌, ◌+◌, ◌^◌, ◌<◌, ◌≤◌, ℕ, Bool, true, false, IsTrue, List, [], ◌++◌, length, Option, Some, None}
-use Rattle.kt_disk.specs.Disk.{Files}
+use Rattle.kt_disk.specs.Disk.{Files, LeavesOnly}
 use Rattle.kt_records.specs.declared.entry.Entry.{Entry}
 use Rattle.kt_history.specs.Rows.{Row}
 use Rattle.kt_history.specs.History.{Past}
@@ -8,9 +8,10 @@ use Rattle.kt_journal.specs.Log.{records_of, IsLog, Holds, IsOldOrBoth}
 use Rattle.kt_journal.specs.Open.{JournalView}
 use Rattle.kt_loglaws.specs.Laws.{LogHolds}
 use Rattle.kt_loglaws.specs.Fronts.{with_records, AllTold, HoldsUpTo}
+use Rattle.kt_loglaws.specs.Appended.{AreOfLogged, WasAppended, records_after}
 
 -- known is the log as it is, or as it last went out; home is the log where it is at home; holder is the pass that has
--- it out, with the records out. room says how many more records may be queued. After a fault it is no longer whole.
+-- it out, with the records out. room says how many more records may be queued. After a fault it is no longer whole. first is its device as the side began.
 pub record SideView (L : Type 0) : Type 0 where
   pub home : Option (JournalView L)
   pub known : JournalView L
@@ -19,6 +20,7 @@ pub record SideView (L : Type 0) : Type 0 where
   pub queued : List Entry
   pub room : ℕ
   pub whole : Bool
+  pub first : L
 
 -- all records in their order: those known to be durable, those out, and those queued
 abbrev pub all_of : {L : Type 0} → (L → Files) → SideView L → List Entry
@@ -50,6 +52,13 @@ pub record IsSide {L : Type 0} (tells : Bool) (seen : L → Files) (now : L → 
   pub bare : spare ≡ 0
   pub usable : IsTrue known.usable
   pub holds : IsTrue tells → Holds now leaves known.disk (records_of (seen known.disk))
+
+-- Since the side began batches were appended to the log one behind another, and its records are those behind them. So it is up to the known log, and from
+-- there to one that came home after a fault a crash left the durable records, or these and those out. Each COMMIT that is out or queued is of a durable write.
+pub record IsGrown {L : Type 0} (tells : Bool) (seen : L → Files) (now : L → ℕ) (leaves : L → ℕ → Files → Type 0) (first : L) (home : Option (JournalView L)) (whole : Bool) (known : JournalView L) (out queued : List Entry) : Type 0 where
+  pub was : IsTrue tells → (grown : WasAppended seen now leaves true first known.disk) × (records_after (records_of (seen first)) grown.appends ≡ records_of (seen known.disk))
+  pub broken : IsTrue tells → whole ≡ false → (journal : JournalView L) → home ≡ Some journal → LeavesOnly now leaves (λ c. IsOldOrBoth (records_of (seen known.disk)) out (c 1)) known.disk journal.disk
+  pub of_logged : IsTrue tells → AreOfLogged (records_of (seen known.disk)) (out ++ queued)
 
 -- A crash while the log is out, or after its append failed: the file holds the durable records, or these and those out.
 -- Then it holds the opened past with the writes up to some t, each durable one among them. The records are those of an

@@ -1,7 +1,9 @@
 //! The log of an engine, at home or lent, and the records that wait for it.
 ghost use Rattle.std.specs.Prelude.{◌≡◌, ◌+◌, ◌-◌, ◌++◌, ◌^◌, ◌<◌, [], ◌∷◌, IsTrue, true, false, length, OnOk, OnErr, IfOk, IfErr, IfSome, Err, Some, None, ◌↔◌, ℕ, ◌≤◌, vec_len, vec_capacity};
-ghost use Rattle.kt_journal.specs.Log.{records_of, Holds};
+ghost use Rattle.kt_disk.specs.Disk.{LeavesOnly};
+ghost use Rattle.kt_journal.specs.Log.{records_of, Holds, IsOldOrBoth};
 ghost use Rattle.kt_journal.specs.Open.{JournalView};
+ghost use Rattle.kt_loglaws.specs.Appended.{AreOfLogged, WasAppended};
 ghost use Rattle.kt_loglaws.specs.Side.{all_of};
 
 use kt_base::NoMemory;
@@ -60,17 +62,19 @@ pub struct LogSide<L: Disk> {
     room: usize,
     lent: Snapshot<Journal<L>>,
     sent: Snapshot<RecordList>,
+    first: Snapshot<Journal<L>>,
 }
 
 impl<L: Disk> Model for LogSide<L> {
     ghost use Rattle.std.specs.Prelude.{vec_len, vec_capacity};
-    ghost use Rattle.kt_loglaws.specs.Side.{SideView, IsSide, known_in, out_in, holder_in};
+    ghost use Rattle.kt_loglaws.specs.Side.{SideView, IsSide, IsGrown, known_in, out_in, holder_in};
 
     ghost Value = { SideView L };
 
-    ghost view = { λ s. record { home = s.journal; known = known_in s.journal s.whole s.lent.value; holder = holder_in s.journal s.by; out = out_in s.journal s.whole s.sent.value; queued = s.queue.items; room = s.room; whole = s.whole } };
+    ghost view = { λ s. record { home = s.journal; known = known_in s.journal s.whole s.lent.value; holder = holder_in s.journal s.by; out = out_in s.journal s.whole s.sent.value; queued = s.queue.items; room = s.room; whole = s.whole; first = s.first.value.disk } };
 
-    ghost invariant = { λ s. IsSide L.tells L.seen L.now L.leaves (known_in s.journal s.whole s.lent.value) (out_in s.journal s.whole s.sent.value) s.durable s.out (vec_len s.queue) s.room (vec_capacity s.queue) (vec_len s.spare) };
+    ghost invariant = { λ s. IsSide L.tells L.seen L.now L.leaves (known_in s.journal s.whole s.lent.value) (out_in s.journal s.whole s.sent.value) s.durable s.out (vec_len s.queue) s.room (vec_capacity s.queue) (vec_len s.spare)
+        × IsGrown L.tells L.seen L.now L.leaves s.first.value.disk s.journal s.whole (known_in s.journal s.whole s.lent.value) (out_in s.journal s.whole s.sent.value) s.queue.items };
 }
 
 // The place of the last of so many records, where it is a number.
@@ -122,7 +126,9 @@ impl<L: Disk> LogSide<L> {
     ) -> Result<LogSide<L>, (Journal<L>, RecordList)>
         requires usable { IsTrue journal.usable }
         requires durable { IsTrue L.tells → Holds L.now L.leaves journal.disk (records_of (L.seen journal.disk)) }
-        ensures side { IfOk result (λ side. side ≡ record { home = Some journal; known = journal; holder = None; out = []; queued = queued; room = 0; whole = true }) }
+        // Each COMMIT that is queued is of a write that stands in the log.
+        requires of_logged { IsTrue L.tells → AreOfLogged (records_of (L.seen journal.disk)) queued }
+        ensures side { IfOk result (λ side. side ≡ record { home = Some journal; known = journal; holder = None; out = []; queued = queued; room = 0; whole = true; first = journal.disk }) }
         ensures back { IfErr result (λ e. (e.0 ≡ journal) × (e.1 ≡ queued)) }
     {
         if end_of(journal.count(), 0, queued.len(), 0).is_none() {
@@ -137,6 +143,7 @@ impl<L: Disk> LogSide<L> {
             spare: Vec::new(alloc),
             lent: Snapshot::of(&journal),
             sent: Snapshot::of(&queued),
+            first: Snapshot::of(&journal),
             journal: Some(journal),
             queue: queued.into_vec(),
         })
@@ -148,6 +155,15 @@ impl<L: Disk> LogSide<L> {
         ensures held { IsTrue L.tells → Holds L.now L.leaves self.now.known.disk (records_of (L.seen self.now.known.disk)) }
     {
         self.durable
+    }
+
+    /// The log stands: since the side began nothing was done to it but appends, one batch behind another, and a crash at no moment left anything else than what
+    /// was durable then, or that and the batch. All of it is durable unless the last append has failed.
+    pub fn standing(&self)
+        ensures moments { IsTrue L.tells → (journal : JournalView L) → self.now.home ≡ Some journal → WasAppended L.seen L.now L.leaves self.now.whole self.now.first journal.disk }
+    {
+        // The invariant of this very value says so.
+        let _whole = self.whole;
     }
 
     /// The pass that has the log out. Where there is none the log is at home.
@@ -206,7 +222,9 @@ impl<L: Disk> LogSide<L> {
 
     /// Queues a record in reserved room, and gives its place among all records, counted from 1.
     pub fn push(&mut self, entry: Entry) -> u64
-        requires { 0 < self.old.room }
+        requires room { 0 < self.old.room }
+        // A COMMIT is of a durable write.
+        requires of_logged { IsTrue L.tells → AreOfLogged (records_of (L.seen self.old.known.disk)) (entry ∷ []) }
         ensures place { result ≡ self.old.known.count + length self.old.out + length self.old.queued + 1 }
         ensures queued { self.new ≡ record self.old { queued = self.old.queued ++ entry ∷ []; room = self.old.room - 1 } }
     {
@@ -251,6 +269,8 @@ impl<L: Disk> LogSide<L> {
         requires count { batch.journal.count ≡ self.old.known.count + length self.old.out }
         requires reads { IsTrue L.tells → records_of (L.seen batch.journal.disk) ≡ records_of (L.seen self.old.known.disk) ++ self.old.out }
         requires durable { IsTrue L.tells → Holds L.now L.leaves batch.journal.disk (records_of (L.seen batch.journal.disk)) }
+        // At no moment has a crash left anything else than what was durable, or that and the batch.
+        requires moments { IsTrue L.tells → LeavesOnly L.now L.leaves (λ c. IsOldOrBoth (records_of (L.seen self.old.known.disk)) self.old.out (c 1)) self.old.known.disk batch.journal.disk }
         ensures home { self.new ≡ record self.old { home = Some batch.journal; known = batch.journal; holder = None; out = [] } }
         ensures all { IsTrue L.tells → all_of L.seen self.new ≡ all_of L.seen self.old }
     {
@@ -282,6 +302,7 @@ impl<L: Disk> LogSide<L> {
     /// Takes the log home after a fault. It is not lent again, and the records that were out are neither durable nor queued.
     pub fn broken(&mut self, number: u32, batch: Batch<L>)
         requires out { self.old.holder ≡ Some number }
+        requires moments { IsTrue L.tells → LeavesOnly L.now L.leaves (λ c. IsOldOrBoth (records_of (L.seen self.old.known.disk)) self.old.out (c 1)) self.old.known.disk batch.journal.disk }
         ensures { self.new ≡ record self.old { home = Some batch.journal; holder = None; whole = false } }
     {
         let Batch {

@@ -1,5 +1,6 @@
 pub mod Named
 pub mod Standing
+pub mod Published
 pub mod Sides
 pub mod Gates
 pub mod NextMeta

@@ -1,9 +1,10 @@
 -- What keeps the store of an engine standing: it goes out, it comes home, and it comes home after a fault.
 use Rattle.std.proofs.Common.{◌≡◌, ℕ, ◌≤◌, ◌+◌, ◌^◌, List, [], ◌∷◌, Bool, IsTrue, true, false, Option, Some, None, refl, sym, subst, ◌∙◌, arith, inl, inr}
-use Rattle.std.specs.Prelude.{Ok}
+use Rattle.std.specs.Prelude.{◌⊎◌, Ok}
+use Rattle.kt_files.specs.Named.{HasNamed}
 use Rattle.std.specs.List.{AllByRecursion}
 use Rattle.kt_base.specs.Causes.{Rose}
-use Rattle.kt_disk.specs.Disk.{Files}
+use Rattle.kt_disk.specs.Disk.{Files, LeavesOnly}
 use Rattle.kt_super.specs.declared.meta.Meta.{Meta}
 use Rattle.kt_super.specs.declared.meta.MetaRowset.{MetaRowset}
 use Rattle.kt_super.specs.Body.{IsMeta}
@@ -13,7 +14,9 @@ use Rattle.kt_storeside.specs.Turns.{IsTurn, HasOneOf}
 use Rattle.kt_storeside.specs.Sides.{StoreView, known_in, lent_in, holder_in, published_in, side_of, HasEither, SpellLent, LeavesSpelled, SpellMade, IsMade, Most, IsWithin, Beginning, most_from, greatest_dms, MayBeLent, IsSide}
 use Rattle.kt_storeside.proofs.Gates.{same_slot}
 use Rattle.kt_storeside.proofs.Named.{first_file}
-use Rattle.kt_storeside.proofs.Standing.{left_above, image_has, still_stand}
+use Rattle.kt_storeside.specs.Published.{Version, WasPublished, published_last}
+use Rattle.kt_storeside.proofs.Published.{turned, only_so, none_yet}
+use Rattle.kt_storeside.proofs.Standing.{left_above, left, image_has, still_stand}
 
 -- a superblock lies within the bounds that it begins with
 dms_within : (least : ℕ) (rowsets : List MetaRowset) (most : ℕ) → greatest_dms least rowsets ≤ most → AllByRecursion (λ (r : MetaRowset). r.last_dms ≤ most) rowsets
@@ -86,6 +89,8 @@ module _ {D : Type 0} (tells : Bool) (seen : D → Files) (now : D → ℕ) (lea
     stand = λ d at t. subst (λ (x : D). NamedStand seen now leaves x) (same d at) (named_stand meta device (publishes t));
     slots = λ t slot is m told. inl told;
     spells = λ d at t. subst (λ (x : D). LeavesSpelled now leaves (seen device) None x) (same d at) (stable_spell device None (publishes t).slots);
+    was = λ t. none_yet seen now leaves device meta (publishes t).superblock;
+    last = λ un d at. absurd cc;
   }
     where
       same : (d : D) → Some device ≡ Some d → device ≡ d
@@ -110,6 +115,8 @@ module _ {D : Type 0} (tells : Bool) (seen : D → Files) (now : D → ℕ) (lea
     stand = λ other out. absurd cc;
     slots = s.slots;
     spells = λ other out. absurd cc;
+    was = s.was;
+    last = λ un other out. absurd cc;
   })
     where
       same : d ≡ disk
@@ -137,10 +144,11 @@ module _ {D : Type 0} (tells : Bool) (seen : D → Files) (now : D → ℕ) (lea
   pub home_stands : (home : Option D) (whole : Bool) (went : D) (by : ℕ) (meta : Meta) (lent : Option Meta) (nr nf : ℕ) (first : Beginning D) (disk : D) (number : ℕ) (published : Bool) (given : Option Meta) (nr' nf' : ℕ)
       → Stands (side_of home whole went by meta lent nr nf first) → holder_in home by ≡ Some number → IsTrue whole → given ≡ lent_in home whole lent → nr ≤ nr' → nf ≤ nf' → (IsTrue tells → IsTurn seen now leaves nf nf' (known_in home whole went) disk)
       → (IsTrue tells → super_of (seen disk) ≡ Ok (Some (published_in published given meta))) → (IsTrue tells → AreStable seen now leaves disk)
-      → (IsTrue tells → SpellLent (seen (known_in home whole went)) given (seen disk)) → Stands (side_of (Some disk) whole went by (published_in published given meta) lent nr' nf' first)
-  home_stands (Some d) whole went by meta lent nr nf first disk number published given nr' nf' s out is same le le' turn superblock stable spell = absurd cc
-  home_stands None false went by meta lent nr nf first disk number published given nr' nf' s out is same le le' turn superblock stable spell = absurd cc
-  home_stands None true went by meta lent nr nf first disk number published given nr' nf' s out is same le le' turn superblock stable spell = record {
+      → (IsTrue tells → SpellLent (seen (known_in home whole went)) given (seen disk)) → (IsTrue tells → LeavesOnly now leaves (HasEither seen (side_of home whole went by meta lent nr nf first)) (known_in home whole went) disk)
+      → Stands (side_of (Some disk) whole went by (published_in published given meta) lent nr' nf' first)
+  home_stands (Some d) whole went by meta lent nr nf first disk number published given nr' nf' s out is same le le' turn superblock stable spell only = absurd cc
+  home_stands None false went by meta lent nr nf first disk number published given nr' nf' s out is same le le' turn superblock stable spell only = absurd cc
+  home_stands None true went by meta lent nr nf first disk number published given nr' nf' s out is same le le' turn superblock stable spell only = record {
     rules = k.rules;
     within = k.within;
     rowsets = omega (arith, k.rowsets, le);
@@ -153,6 +161,8 @@ module _ {D : Type 0} (tells : Bool) (seen : D → Files) (now : D → ℕ) (lea
     stand = λ d at t. subst (λ (x : D). NamedStand seen now leaves x) (at_home d at) (named_stand (published_in published given meta) disk (publishes t));
     spells = λ d at t. subst (λ (x : D). LeavesSpelled now leaves (seen disk) None x) (at_home d at) (stable_spell disk None (stable t));
     slots = slots;
+    was = was;
+    last = λ un d at. absurd cc;
   }
     where
       k : IsKept (published_in published given meta) first.most nr nf meta.number went
@@ -175,13 +185,31 @@ module _ {D : Type 0} (tells : Bool) (seen : D → Files) (now : D → ℕ) (lea
       at_home : (d : D) → Some disk ≡ Some d → disk ≡ d
       at_home d at = cc
 
+      -- the one that went out reads the same files as it comes home
+      as_read : (t : IsTrue tells) (m : Meta) → IsMeta m → m.next_file ≤ nf → HasNamed m.rowsets (seen went) (seen disk)
+      as_read t m rules given n is = (turn t).reads n (left seen now leaves nf nf' went disk (turn t) m rules given n is)
+
+      more : (t : IsTrue tells) (c : Files) → HasEither seen (side_of None true went by meta lent nr nf first) c → HasSuper (seen went) meta c ⊎ ((m : Meta) × (lent ≡ Some m) × HasSuper (seen disk) m c)
+      more t c (inl has) = inl has
+      more t c (inr new) = let may = s.lent_is new.0 new.1 in inr (new.0, new.1, record { superblock = new.2.superblock; named_are = λ n is. new.2.named_are n is ∙ sym (as_read t new.0 may.next.rules may.next.files n is) })
+
+      is_one : (b : Bool) (o : Option Meta) → (published_in b o meta ≡ meta) ⊎ (o ≡ Some (published_in b o meta))
+      is_one true None = inl refl
+      is_one true (Some m) = inr refl
+      is_one false o = inl refl
+
+      was : (t : IsTrue tells) → (w : WasPublished seen now leaves first.device disk) × (published_last w ≡ record { meta = published_in published given meta; files = seen disk })
+      was t = turned seen now leaves first.device went disk (record { meta = meta; files = seen went }) (record { meta = published_in published given meta; files = seen disk }) lent (s.was t).0 (s.was t).1
+          (λ m e. ((s.lent_is m e).next.rules, (s.lent_is m e).next.number)) (subst (λ (o : Option Meta). (published_in published given meta ≡ meta) ⊎ (o ≡ Some (published_in published given meta))) same (is_one published given)) (as_read t meta s.rules s.files)
+          (only_so seen now leaves (HasEither seen (side_of None true went by meta lent nr nf first)) (λ c. HasSuper (seen went) meta c ⊎ ((m : Meta) × (lent ≡ Some m) × HasSuper (seen disk) m c)) went disk (more t) (only t))
+
   -- it comes home after a fault
   pub broken_stands : (home : Option D) (whole : Bool) (went : D) (by : ℕ) (meta : Meta) (lent : Option Meta) (nr nf : ℕ) (first : Beginning D) (disk : D) (number nf' : ℕ)
       → Stands (side_of home whole went by meta lent nr nf first) → holder_in home by ≡ Some number → nf ≤ nf' → (IsTrue tells → IsTurn seen now leaves nf nf' (known_in home whole went) disk)
       → (IsTrue tells → HasOneOf now leaves meta (published_in true (lent_in home whole lent) meta) disk) → (IsTrue tells → LeavesSpelled now leaves (seen (known_in home whole went)) (lent_in home whole lent) disk)
-      → Rose (faults (known_in home whole went)) (faults disk) → Stands (side_of (Some disk) false went by meta lent nr nf first)
-  broken_stands (Some d) whole went by meta lent nr nf first disk number nf' s out le turn one spell rose = absurd cc
-  broken_stands None whole went by meta lent nr nf first disk number nf' s out le turn one spell rose = record {
+      → Rose (faults (known_in home whole went)) (faults disk) → (IsTrue tells → LeavesOnly now leaves (HasEither seen (side_of home whole went by meta lent nr nf first)) (known_in home whole went) disk) → Stands (side_of (Some disk) false went by meta lent nr nf first)
+  broken_stands (Some d) whole went by meta lent nr nf first disk number nf' s out le turn one spell rose only = absurd cc
+  broken_stands None whole went by meta lent nr nf first disk number nf' s out le turn one spell rose only = record {
     rules = s.rules;
     within = s.within;
     rowsets = s.rowsets;
@@ -194,6 +222,8 @@ module _ {D : Type 0} (tells : Bool) (seen : D → Files) (now : D → ℕ) (lea
     stand = λ d at t. subst (λ (k : D). NamedStand seen now leaves k) (same d at) (named t);
     slots = s.slots;
     spells = λ d at t. subst (λ (k : D). LeavesSpelled now leaves (seen went) lent k) (same d at) (spell t);
+    was = s.was;
+    last = λ no d at t. subst (λ (k : D). LeavesOnly now leaves (HasEither seen (side_of (Some disk) false went by meta lent nr nf first)) went k) (same d at) (only t);
   }
     where
       same : (d : D) → Some disk ≡ Some d → disk ≡ d
@@ -225,3 +255,12 @@ module _ {D : Type 0} (tells : Bool) (seen : D → Files) (now : D → ℕ) (lea
         | inl old ↦ inl (has t meta s.rules s.files ((s.publishes t).files) c is old)
         | inr new ↦ of_lent lent refl t c is new
       ]
+
+  -- what was left at each moment since the side began, up to a device at home
+  pub left_since : (v : StoreView D) → Stands v → (IsTrue v.whole → (disk : D) → v.home ≡ Some disk → disk ≡ v.known) → IsTrue tells → (disk : D) → v.home ≡ Some disk → WasPublished seen now leaves v.first.device disk
+  left_since v s known t disk at = by v.whole refl
+    where
+      by : (b : Bool) → v.whole ≡ b → WasPublished seen now leaves v.first.device disk
+      by true is = subst (λ (d : D). WasPublished seen now leaves v.first.device d) (sym (known is disk at)) (s.was t).0
+      by false is = (turned seen now leaves v.first.device v.known disk (record { meta = v.meta; files = seen v.known }) (record { meta = v.meta; files = seen v.known }) v.lent (s.was t).0 (s.was t).1
+          (λ m e. ((s.lent_is m e).next.rules, (s.lent_is m e).next.number)) (inl refl) (λ n is. refl) (s.last is disk at t)).0

@@ -29,7 +29,7 @@ left_above first next n least rise above = record {
 }
 
 module _ {D : Type 0} (seen : D → Files) (now : D → ℕ) (leaves : D → ℕ → Files → Type 0) (first next : ℕ) (old new : D) (turn : IsTurn seen now leaves first next old new) (m : Meta) (rules : IsMeta m) (given : m.next_file ≤ first) where
-  left : (n : ℕ) → has (named m) n ≡ true → IsLeft first next n
+  pub left : (n : ℕ) → has (named m) n ≡ true → IsLeft first next n
   left n e = let b = named_between m n rules e in left_below first next n b.least (omega (arith, b.below, given))
 
   -- each image after it has the named files as the disk read before it

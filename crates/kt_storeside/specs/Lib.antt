@@ -1,4 +1,5 @@
 pub mod Supers
 pub mod Turns
+pub mod Published
 pub mod Sides
 pub mod Next

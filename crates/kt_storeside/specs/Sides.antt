@@ -2,12 +2,13 @@
 use Rattle.std.specs.Prelude.{◌≡◌, ◌⊎◌, ℕ, ◌+◌, ◌^◌, ◌≤◌, max, Bool, true, false, IsTrue, List, [], ◌∷◌, Option, Some, None, Ok}
 use Rattle.std.specs.List.{AllByRecursion}
 use Rattle.kt_base.specs.Causes.{Rose}
-use Rattle.kt_disk.specs.Disk.{Files, held}
+use Rattle.kt_disk.specs.Disk.{Files, held, LeavesOnly}
 use Rattle.kt_super.specs.declared.meta.Meta.{Meta}
 use Rattle.kt_super.specs.declared.meta.MetaRowset.{MetaRowset}
 use Rattle.kt_super.specs.Body.{IsMeta}
 use Rattle.kt_super.specs.Slots.{slot_at, IsSlot}
 use Rattle.kt_storeside.specs.Supers.{FilesStand, Publishes, HasSuper, IsSuccessor, NamedStand}
+use Rattle.kt_storeside.specs.Published.{WasPublished, published_last}
 
 -- ---- how great the numbers of a superblock may grow
 
@@ -120,7 +121,8 @@ SpellMade seen v c = (slot : ℕ) → IsSlot slot → (m : Meta) → slot_at slo
 -- The store stands: the known device publishes its superblock, which lies within the bounds, no file has a number that is still to be given, and what was lent may be. After
 -- a fault each image has one of both superblocks. At home nothing is pending of the data files that the superblock of an image names, and no slot of one
 -- spells another superblock than it spelled as the known device reads, or than the lent one; as that reads, none than when the side began, or than were made
--- since.
+-- since. Since it began nothing was done to the store but turns, up to the known device, and from there to one that came home after a fault a crash left the
+-- published superblock or the lent one.
 pub record IsSide {D : Type 0} (tells : Bool) (seen : D → Files) (now : D → ℕ) (leaves : D → ℕ → Files → Type 0) (faults : D → ℕ) (v : StoreView D) : Type 0 where
   pub rules : IsMeta v.meta
   pub within : IsWithin v.first.most v.meta
@@ -134,3 +136,5 @@ pub record IsSide {D : Type 0} (tells : Bool) (seen : D → Files) (now : D → 
   pub stand : (disk : D) → v.home ≡ Some disk → IsTrue tells → NamedStand seen now leaves disk
   pub slots : IsTrue tells → SpellMade seen v (seen v.known)
   pub spells : (disk : D) → v.home ≡ Some disk → IsTrue tells → LeavesSpelled now leaves (seen v.known) v.lent disk
+  pub was : IsTrue tells → (was : WasPublished seen now leaves v.first.device v.known) × (published_last was ≡ record { meta = v.meta; files = seen v.known })
+  pub last : v.whole ≡ false → (disk : D) → v.home ≡ Some disk → IsTrue tells → LeavesOnly now leaves (HasEither seen v) v.known disk

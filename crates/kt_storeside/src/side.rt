@@ -1,12 +1,14 @@
 //! The store of an engine, at home or lent.
 ghost use Rattle.std.specs.Prelude.{◌≡◌, ◌≤◌, ◌+◌, ℕ, List, Bool, IsTrue, true, false, Some, None, Ok};
 ghost use Rattle.kt_base.specs.Causes.{Rose};
+ghost use Rattle.kt_disk.specs.Disk.{LeavesOnly};
 ghost use Rattle.kt_super.specs.declared.meta.Meta.{Meta};
 ghost use Rattle.kt_super.specs.Body.{IsMeta};
 ghost use Rattle.kt_super.specs.Slots.{super_of, AreStable};
 ghost use Rattle.kt_storeside.specs.Supers.{Publishes, HasSuper};
 ghost use Rattle.kt_storeside.specs.Turns.{IsLeft, IsTurn, StandsWith, HasOneOf};
-ghost use Rattle.kt_storeside.specs.Sides.{StoreView, IsSide, MayBeLent, SpellLent, LeavesSpelled, SpellMade, published_in, most_from};
+ghost use Rattle.kt_storeside.specs.Published.{WasPublished};
+ghost use Rattle.kt_storeside.specs.Sides.{StoreView, IsSide, MayBeLent, HasEither, SpellLent, LeavesSpelled, SpellMade, published_in, most_from};
 
 use kt_disk::Disk;
 use kt_super::Meta;
@@ -139,12 +141,14 @@ impl<D: Disk + Drop> StoreSide<D> {
     }
 
     /// The store stands. What a crash leaves of a device at home is the published superblock with the data files that it names; after a fault (`broken` of
-    /// `IsSide`) that or the one that was lent. No slot of it spells a superblock that it did not spell when the side began, and that was not made since.
+    /// `IsSide`) that or the one that was lent. No slot of it spells a superblock that it did not spell when the side began, and that was not made since. At each
+    /// moment since then a crash left the superblock that was published, or the one that was out to be, and the files that it names.
     pub fn standing(&self)
         ensures side { IsSide D.tells D.seen D.now D.leaves D.faults self.now }
         ensures whole { IsTrue self.now.whole → (device : D) → self.now.home ≡ Some device → device ≡ self.now.known }
         ensures crash { IsTrue self.now.whole → IsTrue D.tells → (device : D) → self.now.home ≡ Some device → (c : _) → D.leaves device (D.now device) c → HasSuper (D.seen device) self.now.meta c }
         ensures made { IsTrue D.tells → (device : D) → self.now.home ≡ Some device → (c : _) → D.leaves device (D.now device) c → SpellMade D.seen self.now c }
+        ensures moments { IsTrue D.tells → (device : D) → self.now.home ≡ Some device → WasPublished D.seen D.now D.leaves self.now.first.device device }
     {
         // The invariant of this very value says so.
         let _whole = self.whole;
@@ -186,6 +190,8 @@ impl<D: Disk + Drop> StoreSide<D> {
         requires superblock { IsTrue D.tells → super_of (D.seen lent.device) ≡ Ok (Some (published_in published lent.meta self.old.meta)) }
         requires slots { IsTrue D.tells → AreStable D.seen D.now D.leaves lent.device }
         requires spells { IsTrue D.tells → SpellLent (D.seen self.old.known) lent.meta (D.seen lent.device) }
+        // At no moment has a crash left anything else than the published superblock or the one that was lent, and the files that it names.
+        requires moments { IsTrue D.tells → LeavesOnly D.now D.leaves (HasEither D.seen self.old) self.old.known lent.device }
         ensures side { self.new ≡ record self.old { home = Some lent.device; known = lent.device; holder = None; meta = published_in published lent.meta self.old.meta; lent = None; next_rowset = lent.next_rowset; next_file = lent.next_file; whole = true } }
         ensures stands { IsTrue D.tells → (n : ℕ) (bytes : List ℕ) → IsLeft self.old.next_file lent.next_file n → StandsWith D.now D.leaves n bytes self.old.known → StandsWith D.now D.leaves n bytes self.new.known }
     {
@@ -209,6 +215,7 @@ impl<D: Disk + Drop> StoreSide<D> {
         requires one_of { IsTrue D.tells → HasOneOf D.now D.leaves self.old.meta (published_in true self.old.lent self.old.meta) lent.device }
         requires spells { IsTrue D.tells → LeavesSpelled D.now D.leaves (D.seen self.old.known) self.old.lent lent.device }
         requires rose { Rose (D.faults self.old.known) (D.faults lent.device) }
+        requires moments { IsTrue D.tells → LeavesOnly D.now D.leaves (HasEither D.seen self.old) self.old.known lent.device }
         ensures { self.new ≡ record self.old { home = Some lent.device; holder = None; whole = false } }
     {
         let Lent {

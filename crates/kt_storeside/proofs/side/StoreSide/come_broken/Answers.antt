@@ -1,7 +1,8 @@
 use Rattle.std.proofs.Common.{◌≡◌, ◌≤◌, Some, IsTrue, true, false, sym, subst}
 use Rattle.kt_base.specs.Causes.{Rose}
+use Rattle.kt_disk.specs.Disk.{LeavesOnly}
 use Rattle.kt_storeside.specs.Turns.{IsTurn, HasOneOf}
-use Rattle.kt_storeside.specs.Sides.{StoreView, Beginning, most_above, side_of, published_in, IsSide, LeavesSpelled}
+use Rattle.kt_storeside.specs.Sides.{StoreView, Beginning, most_above, side_of, published_in, HasEither, IsSide, LeavesSpelled}
 use Rattle.kt_storeside.proofs.Sides.{broken_stands}
 use Rattle.kt_storeside.proofs.side.StoreSide.come_broken.Goals as goal
 
@@ -16,4 +17,5 @@ invariant_of-self g c =
     (at (λ v. IsTrue g.D.Disk.tells → IsTurn g.D.Disk.seen g.D.Disk.now g.D.Disk.leaves v.next_file c.args.lent.next_file v.known c.args.lent.device) c.requires.turn)
     (at (λ v. IsTrue g.D.Disk.tells → HasOneOf g.D.Disk.now g.D.Disk.leaves v.meta (published_in true v.lent v.meta) c.args.lent.device) c.requires.one_of)
     (at (λ v. IsTrue g.D.Disk.tells → LeavesSpelled g.D.Disk.now g.D.Disk.leaves (g.D.Disk.seen v.known) v.lent c.args.lent.device) c.requires.spells)
-    (at (λ v. Rose (g.D.Disk.faults v.known) (g.D.Disk.faults c.args.lent.device)) c.requires.rose))
+    (at (λ v. Rose (g.D.Disk.faults v.known) (g.D.Disk.faults c.args.lent.device)) c.requires.rose)
+    (at (λ v. IsTrue g.D.Disk.tells → LeavesOnly g.D.Disk.now g.D.Disk.leaves (HasEither g.D.Disk.seen v) v.known c.args.lent.device) c.requires.moments))

@@ -1,8 +1,9 @@
 use Rattle.std.proofs.Common.{◌≡◌, ◌≤◌, Some, IsTrue, sym, subst}
 use Rattle.std.specs.Prelude.{Ok}
+use Rattle.kt_disk.specs.Disk.{LeavesOnly}
 use Rattle.kt_super.specs.Slots.{super_of}
 use Rattle.kt_storeside.specs.Turns.{IsTurn}
-use Rattle.kt_storeside.specs.Sides.{StoreView, Beginning, most_above, side_of, published_in, SpellLent, IsSide}
+use Rattle.kt_storeside.specs.Sides.{StoreView, Beginning, most_above, side_of, published_in, HasEither, SpellLent, IsSide}
 use Rattle.kt_storeside.proofs.Sides.{home_stands}
 use Rattle.kt_storeside.proofs.side.StoreSide.come_home.Goals as goal
 
@@ -19,4 +20,5 @@ invariant_of-self g c =
     (at (λ v. v.next_rowset ≤ c.args.lent.next_rowset) c.requires.numbers.0) (at (λ v. v.next_file ≤ c.args.lent.next_file) c.requires.numbers.1)
     (at (λ v. IsTrue g.D.Disk.tells → IsTurn g.D.Disk.seen g.D.Disk.now g.D.Disk.leaves v.next_file c.args.lent.next_file v.known c.args.lent.device) c.requires.turn)
     (at (λ v. IsTrue g.D.Disk.tells → super_of (g.D.Disk.seen c.args.lent.device) ≡ Ok (Some (published_in c.args.published c.args.lent.meta v.meta))) c.requires.superblock) c.requires.slots
-    (at (λ v. IsTrue g.D.Disk.tells → SpellLent (g.D.Disk.seen v.known) c.args.lent.meta (g.D.Disk.seen c.args.lent.device)) c.requires.spells)))
+    (at (λ v. IsTrue g.D.Disk.tells → SpellLent (g.D.Disk.seen v.known) c.args.lent.meta (g.D.Disk.seen c.args.lent.device)) c.requires.spells)
+    (at (λ v. IsTrue g.D.Disk.tells → LeavesOnly g.D.Disk.now g.D.Disk.leaves (HasEither g.D.Disk.seen v) v.known c.args.lent.device) c.requires.moments)))
