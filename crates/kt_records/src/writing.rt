@@ -1,7 +1,8 @@
 //! Spelling a record.
-ghost use Rattle.std.specs.Prelude.{◌≡◌, ◌<◌, ◌^◌, ◌++◌, ◌∷◌, [], length, OnOk, OnErr};
+ghost use Rattle.std.specs.Prelude.{◌≡◌, ◌<◌, ◌^◌, ◌++◌, ◌∷◌, [], length, IfSome, OnOk, OnErr};
 ghost use Rattle.std.specs.List.{flat_map};
 ghost use Rattle.std.specs.Int.{w16, w64, to_le_bytes};
+ghost use Rattle.kt_history.specs.declared.target.Target.TheVariants as stores;
 ghost use Rattle.kt_records.specs.Spelling.{outcome as outcome_number, target as target_bytes, commit_row, head, listed, spelling};
 ghost use Rattle.kt_records.specs.Rules.{EachAfter, RowFits, KeepsRules};
 
@@ -51,14 +52,47 @@ fn put_targets(out: &mut Tail, targets: &[Target]) -> Result<(), NoMemory>
     Ok(())
 }
 
+// A row of which one MemRowSet is told: its outcome, how many stores it changed, and that one.
+fn row_in_mem(outcome: u8, number: u64) -> [u8; 11]
+    ensures { result ≡ outcome ∷ 1 ∷ 1 ∷ to_le_bytes w64 number }
+{
+    let mut row = [1; 11];
+    row[0] = outcome;
+    row[3..].copy_from_slice(&number.to_le_bytes());
+    row
+}
+
+fn put_row_in(out: &mut Tail, outcome: u8, targets: &[Target]) -> Result<(), NoMemory>
+    requires { length targets.now < 2 ^ 8 }
+    ensures front { out.new.front ≡ out.old.front }
+    ensures ok { OnOk result (out.new.added ≡ out.old.added ++ outcome ∷ length targets.now ∷ flat_map target_bytes targets.now) }
+{
+    out.push(outcome)?;
+    out.push(targets.len() as u8)?;
+    put_targets(out, targets)
+}
+
+// The number of the MemRowSet, where that is the only store.
+fn only_mem(targets: &[Target]) -> Option<u64>
+    ensures { IfSome result (λ number. targets.now ≡ stores.Mem number ∷ []) }
+{
+    match targets {
+        [Target::Mem(number)] => Some(*number),
+        _ => None,
+    }
+}
+
 fn put_row(out: &mut Tail, row: &CommitRow) -> Result<(), NoMemory>
     requires { length row.now.targets < 2 ^ 8 }
     ensures front { out.new.front ≡ out.old.front }
     ensures ok { OnOk result (out.new.added ≡ out.old.added ++ commit_row row.now) }
 {
-    out.push(number_of_outcome(row.outcome))?;
-    out.push(row.targets.len() as u8)?;
-    put_targets(out, row.targets.as_slice())
+    let outcome = number_of_outcome(row.outcome);
+    let targets = row.targets.as_slice();
+    match only_mem(targets) {
+        Some(number) => out.extend(&row_in_mem(outcome, number)),
+        None => put_row_in(out, outcome, targets),
+    }
 }
 
 fn put_rows(out: &mut Tail, rows: &[CommitRow]) -> Result<(), NoMemory>
