@@ -36,8 +36,8 @@ impl Model for Waiting {
     ghost invariant = { λ w. IsRising w.last w.held.items };
 }
 
-// Where the write of this timestamp stands.
-fn place_of(held: &VecDeque<Held>, ts: u64) -> Option<usize>
+// Where the write of this timestamp stands, looked for by halves.
+fn place_by_halves(held: &VecDeque<Held>, ts: u64) -> Option<usize>
     requires { AllPairs (λ a b. a.ts < b.ts) held.now.items }
     ensures found { IfSome result (λ at. (at < length held.now.items) × HoldsAt (λ a. a.ts ≡ ts) held.now.items at) }
     ensures none { IfNone result (number_in held.now.items ts ≡ None) }
@@ -45,6 +45,27 @@ fn place_of(held: &VecDeque<Held>, ts: u64) -> Option<usize>
     let at = held.partition_point(|held| held.ts < ts);
     let here = held.get(at)?;
     if here.ts == ts { Some(at) } else { None }
+}
+
+fn is_first(held: &VecDeque<Held>, ts: u64) -> bool
+    ensures { result ≡ true → (0 < length held.now.items) × HoldsAt (λ a. a.ts ≡ ts) held.now.items 0 }
+{
+    match held.front() {
+        Some(first) => first.ts == ts,
+        None => false,
+    }
+}
+
+// Where the write of this timestamp stands: at the front where COMMITs come in the order of their writes.
+fn place_of(held: &VecDeque<Held>, ts: u64) -> Option<usize>
+    requires { AllPairs (λ a b. a.ts < b.ts) held.now.items }
+    ensures found { IfSome result (λ at. (at < length held.now.items) × HoldsAt (λ a. a.ts ≡ ts) held.now.items at) }
+    ensures none { IfNone result (number_in held.now.items ts ≡ None) }
+{
+    if is_first(held, ts) {
+        return Some(0);
+    }
+    place_by_halves(held, ts)
 }
 
 fn first_was_taken(held: &VecDeque<Held>) -> bool

@@ -6,7 +6,7 @@ use Rattle.std.proofs.lemmas.List.Sorted.{IsPartitionPoint-from_clause, IsPartit
 use Rattle.kt_journal.specs.declared.waiting.Held.{Held}
 use Rattle.kt_journal.specs.Waiting.{number_in}
 use Rattle.kt_journal.proofs.Waits.{missing, searched}
-use Rattle.kt_journal.proofs.waiting.place_of.Goals as goal
+use Rattle.kt_journal.proofs.waiting.place_by_halves.Goals as goal
 
 pub returns-in_err-here-clause-none : goal.returns-in_err-here-clause-none
 returns-in_err-here-clause-none c =
