@@ -1,7 +1,7 @@
 -- A line is told by the columns that its scan asks for.
 use Rattle.std.proofs.Common.{◌≡◌, ℕ, suc, List, [], ◌∷◌, ◌++◌, ◌||◌, ◌&&◌, Bool, true, false, cond, length, Option, Some, None, refl, sym, ap, ◌∙◌, subst, map, arith, append_assoc}
 use Rattle.std.specs.Prelude.{not, unwrap_or}
-use Rattle.std.specs.List.{AllByRecursion}
+use Rattle.std.specs.List.{AllByRecursion, list_any}
 use Rattle.std.specs.Option.{option_or}
 use Rattle.std.specs.Cmp.{nat_cmp_total}
 use Rattle.std.proofs.lemmas.Cmp.{tied_itself}
@@ -23,7 +23,7 @@ use Rattle.kt_scan.specs.Asking.{others_in, asked_ids}
 use Rattle.kt_scan.specs.Encoded.{keys_of, ids_with}
 use Rattle.kt_scan.specs.Lines.{cut, line_of}
 use Rattle.kt_scan.specs.Whole.{has_id}
-use Rattle.kt_scan.proofs.Named.{found_first, found_later, not_among, cut_read}
+use Rattle.kt_scan.proofs.Named.{found_first, found_later, not_among, kept_without, cut_read}
 
 -- ---- the first view that has a row
 
@@ -122,3 +122,20 @@ line_alike columns scan key ids None None is agree = refl
 line_alike columns scan key ids None (Some b) is agree = absurd agree
 line_alike columns scan key ids (Some a) None is agree = absurd agree
 line_alike columns scan key ids (Some a) (Some b) is agree = line_some columns scan key ids a b is agree
+
+-- ---- a row that does not pass the tests, as the columns tell that are tested
+
+pub fails_line : (columns : List Column) (scan : Scan) (key : List ℕ) (cells : List Cell) (row : Option Row) (read : Row) → list_any (λ p. has_id (key_columns columns) p.column) scan.preds ≡ false
+    → AgreeOn (others_in (key_columns columns) (map (λ p. p.column) scan.preds)) row (Some read) → kept scan.preds (ids_with (key_columns columns) cells ++ read) ≡ false → line_of (keys_of columns) scan key row ≡ None
+fails_line columns scan key cells None read none agree fails = refl
+fails_line columns scan key cells (Some a) read none agree fails =
+    let keys = key_columns columns in
+    let own = key_cells (key_kinds columns) key in
+    let count : length own ≡ length keys = count_cells (key_kinds columns) key ∙ length-map keys (λ c. c.kind) in
+    let same : kept scan.preds (ids_with keys own ++ a) ≡ kept scan.preds (ids_with keys own ++ read) = kept_alike keys own count a read scan.preds (alike keys own count a read (map (λ p. p.column) scan.preds) agree) in
+    let not_kept : kept scan.preds (ids_with keys own ++ a) ≡ false = same ∙ kept_without keys own read scan.preds none ∙ sym (kept_without keys cells read scan.preds none) ∙ fails in
+    sym (cut_read columns scan key own a refl) ∙ ap (λ v. cond v (Some (selected scan.columns (ids_with keys own ++ a))) None) not_kept
+
+pub no_line : (columns : List Column) (scan : Scan) (key ids : List ℕ) (row : Option Row) → AgreeOn ids row None → line_of (keys_of columns) scan key row ≡ None
+no_line columns scan key ids None agree = refl
+no_line columns scan key ids (Some a) agree = absurd agree

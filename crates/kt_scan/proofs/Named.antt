@@ -88,7 +88,7 @@ module _ (columns : List Column) (cells : List Cell) (others : Row) where
   cell_without : (id : ℕ) → has_id columns id ≡ false → cell_of (ids_with columns cells ++ others) id ≡ cell_of others id
   cell_without id h = found_later id (ids_with columns cells) others Null (not_among columns cells id h)
 
-  kept_without : (preds : List Pred) → list_any (λ p. has_id columns p.column) preds ≡ false → kept preds (ids_with columns cells ++ others) ≡ kept preds others
+  pub kept_without : (preds : List Pred) → list_any (λ p. has_id columns p.column) preds ≡ false → kept preds (ids_with columns cells ++ others) ≡ kept preds others
   kept_without [] h = refl
   kept_without (p ∷ preds) h =
       let parts = or_parts (has_id columns p.column) _ h in

@@ -1,5 +1,5 @@
 //! What a scan asks of each row.
-ghost use Rattle.std.specs.Prelude.{◌≡◌, ◌++◌, ◌∷◌, [], map, IfOk, OnOk};
+ghost use Rattle.std.specs.Prelude.{true, false, ◌≡◌, ◌++◌, ◌∷◌, [], map, IfOk, OnOk};
 ghost use Rattle.std.specs.List.{list_any};
 ghost use Rattle.kt_schema.specs.Columns.{key_columns};
 ghost use Rattle.kt_scan.specs.Asking.{others_in, asked_ids};
@@ -17,8 +17,14 @@ pub struct Asked<'s> {
     pub schema: &'s Schema,
     /// Whether the scan shows or tests a key column.
     pub with_key: bool,
+    /// Whether it tests one.
+    pub tests_key: bool,
+    /// The columns that are no key and that it tests.
+    pub tested: &'s [u16],
     /// The columns that are no key and that the scan tests or selects.
     pub ids: &'s [u16],
+    ghost tests: { tests_key ≡ list_any (λ p. has_id (key_columns schema.now) p.column) scan.now.preds },
+    ghost in_tests: { tested.now ≡ others_in (key_columns schema.now) (map (λ p. p.column) scan.now.preds) },
     ghost tells: { with_key ≡ reads_key (key_columns schema.now) scan.now },
     ghost asks: { ids.now ≡ asked_ids (key_columns schema.now) scan.now },
 }
@@ -62,13 +68,6 @@ fn tests_key(columns: &[Column], preds: &[Pred]) -> bool
     false
 }
 
-// Whether a scan shows or tests a key column.
-fn reads_key(columns: &[Column], scan: &Scan) -> bool
-    ensures { result ≡ reads_key columns.now scan.now }
-{
-    tests_key(columns, scan.preds.as_slice()) || shows_key(columns, &scan.columns)
-}
-
 // Adds a column, unless it is one of the key.
 fn push_other(keys: &[Column], id: u16, ids: &mut Vec<u16>) -> Result<(), NoMemory>
     ensures { OnOk result (ids.new.items ≡ ids.old.items ++ others_in keys.now (id ∷ [])) }
@@ -100,6 +99,15 @@ fn push_selected(keys: &[Column], columns: &[u16], ids: &mut Vec<u16>) -> Result
     Ok(())
 }
 
+/// The columns that are no key and that a scan tests.
+pub fn tested_ids(alloc: Global, keys: &[Column], scan: &Scan) -> Result<Vec<u16>, NoMemory>
+    ensures { IfOk result (λ ids. ids.items ≡ others_in keys.now (map (λ p. p.column) scan.now.preds)) }
+{
+    let mut ids = Vec::new(alloc);
+    push_tested(keys, scan.preds.as_slice(), &mut ids)?;
+    Ok(ids)
+}
+
 /// The columns that are no key and that a scan tests or selects.
 pub fn asked_ids(alloc: Global, keys: &[Column], scan: &Scan) -> Result<Vec<u16>, NoMemory>
     ensures { IfOk result (λ ids. ids.items ≡ asked_ids keys.now scan.now) }
@@ -116,18 +124,33 @@ pub fn asked_ids(alloc: Global, keys: &[Column], scan: &Scan) -> Result<Vec<u16>
 }
 
 impl<'s> Asked<'s> {
-    /// A scan, told which columns it asks for.
-    pub fn of(scan: &'s Scan, schema: &'s Schema, ids: &'s [u16]) -> Asked<'s>
-        requires { ids.now ≡ asked_ids (key_columns schema.now) scan.now }
+    /// A scan, told which columns it tests, and which it asks for.
+    pub fn of(scan: &'s Scan, schema: &'s Schema, tested: &'s [u16], ids: &'s [u16]) -> Asked<'s>
+        requires tested { tested.now ≡ others_in (key_columns schema.now) (map (λ p. p.column) scan.now.preds) }
+        requires ids { ids.now ≡ asked_ids (key_columns schema.now) scan.now }
         ensures scan { result.scan.now ≡ scan.now }
         ensures schema { result.schema.now ≡ schema.now }
     {
-        let with_key = reads_key(schema.key_columns(), scan);
+        let columns = schema.key_columns();
+        let tests_key = tests_key(columns, scan.preds.as_slice());
+        let with_key = tests_key || shows_key(columns, &scan.columns);
         Asked {
             scan,
             schema,
             with_key,
+            tests_key,
+            tested,
             ids,
         }
+    }
+
+    /// Whether the columns that it tests can be read alone, and are not all that it reads.
+    pub fn may_test_first(&self) -> bool
+        ensures { result ≡ true → self.now.tests_key ≡ false }
+    {
+        if self.tests_key || self.tested.is_empty() {
+            return false;
+        }
+        self.scan.columns.is_none() || self.tested.len() < self.ids.len()
     }
 }

@@ -5,6 +5,7 @@ ghost use Rattle.kt_base.specs.Borrowed.{cell_in};
 ghost use Rattle.kt_base.specs.Keys.{width_of, number_of_key, first_cell, last_cell, after_first, key_cells};
 ghost use Rattle.kt_scan.specs.Parts.{IsMark, IsTextAt, IsFirst, text_and_rest};
 
+use crate::cells::add;
 use kt_base::{Cell, CellRef, Kind, NoMemory, Octets};
 use kt_key::length::width;
 use memchr::memchr;
@@ -268,9 +269,9 @@ pub fn read_plain<'v>(
         let Some((cell, behind)) = first_plain(*kind, rest) else {
             return Ok(false);
         };
-        cells.push(cell)?;
+        add(cells, cell)?;
         rest = behind;
     }
-    cells.push(last_plain(*last, rest))?;
+    add(cells, last_plain(*last, rest))?;
     Ok(true)
 }

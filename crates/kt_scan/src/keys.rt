@@ -14,16 +14,31 @@ use std::alloc::Global;
 #[derive(Drop)]
 pub struct Hints {
     places: Vec<usize>,
+    kept: Vec<usize>,
 }
 
 impl Hints {
     /// The first places of so many views.
     pub fn new(alloc: Global, views: usize) -> Result<Hints, NoMemory> {
         let mut places = Vec::with_capacity(alloc, views)?;
+        let mut kept = Vec::with_capacity(alloc, views)?;
         for _ in 0..views {
             places.push(0)?;
+            kept.push(0)?;
         }
-        Ok(Hints { places })
+        Ok(Hints { places, kept })
+    }
+
+    /// Keeps the places, to go back to them.
+    pub fn keep(&mut self) {
+        for (kept, place) in self.kept.iter_mut().zip(self.places.iter()) {
+            *kept = *place;
+        }
+    }
+
+    /// Goes back to the places that were kept last.
+    pub fn go_back(&mut self) {
+        std::mem::swap(&mut self.places, &mut self.kept);
     }
 
     fn place(&self, view: usize) -> usize {

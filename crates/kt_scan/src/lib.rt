@@ -5,6 +5,7 @@
 #![tactic(auto)]
 
 mod asked;
+mod cells;
 mod key_cells;
 mod keys;
 mod kinds;

@@ -11,11 +11,11 @@ ghost use Rattle.kt_scan.specs.Live.{row_in, live_rows};
 ghost use Rattle.kt_scan.specs.Lines.{line_of, cut};
 ghost use Rattle.kt_scan.specs.Whole.{whole_in};
 
-use crate::asked::{Asked, asked_ids};
+use crate::asked::{Asked, asked_ids, tested_ids};
 use crate::key_cells::{read_key, read_plain};
 use crate::keys::{Hints, columns_into, next_key, row_into};
 use crate::row::WholeRow;
-use crate::tested::cut;
+use crate::tested::{cut, kept};
 use kt_base::{Cell, CellRef, NoMemory};
 use kt_history::{RowList, RowRef, Scan, View};
 use kt_schema::Schema;
@@ -33,6 +33,7 @@ fn push_cut<'v>(
     if !cut(asked.scan, asked.schema.key_columns(), row, line)? {
         return Ok(());
     }
+    rows.make_room(line.len());
     rows.push(line)
 }
 
@@ -110,6 +111,40 @@ fn row_for<'v, V: View>(
     }
 }
 
+// Whether a key has no row that passes the tests, as the tested columns alone tell. They are read where few rows have passed so far,
+// and the hints are as before where the row may pass.
+fn fails<'v, V: View>(
+    views: &'v [V],
+    t: u64,
+    asked: &Asked<'_>,
+    key: &[u8],
+    few: bool,
+    hints: &mut Hints,
+    row: &mut WholeRow<'v>,
+) -> Result<bool, NoMemory>
+    requires { All (λ v. V.mark v ≤ t) views.now }
+    ensures { IfOk result (λ fails. fails ≡ true → line_of (keys_of asked.now.schema.now) asked.now.scan.now key.now (row_in V.row_of views.now key.now t) ≡ None) }
+{
+    if !few {
+        return Ok(false);
+    }
+    if !asked.may_test_first() {
+        return Ok(false);
+    }
+    hints.keep();
+    let found = columns_into(views, asked.tested, key, t, hints, &mut row.others)?;
+    if !found {
+        return Ok(true);
+    }
+    let preds = asked.scan.preds.as_slice();
+    let columns = asked.schema.key_columns();
+    if !kept(preds, columns, row) {
+        return Ok(true);
+    }
+    hints.go_back();
+    Ok(false)
+}
+
 // Adds what a scan shows of one key, if that has a row that passes the tests.
 fn push_line<'v, V: View>(
     alloc: Global,
@@ -117,6 +152,7 @@ fn push_line<'v, V: View>(
     t: u64,
     asked: &Asked<'_>,
     key: &'v [u8],
+    few: bool,
     hints: &mut Hints,
     row: &mut WholeRow<'v>,
     line: &mut Vec<CellRef<'v>>,
@@ -125,6 +161,9 @@ fn push_line<'v, V: View>(
     requires { All (λ v. V.mark v ≤ t) views.now }
     ensures { OnOk result (rows.new ≡ rows.old ++ option_to_list (line_of (keys_of asked.now.schema.now) asked.now.scan.now key.now (row_in V.row_of views.now key.now t))) }
 {
+    if fails(views, t, asked, key, few, hints, row)? {
+        return Ok(());
+    }
     if !row_for(views, t, asked, key, hints, &mut row.others)? {
         return Ok(());
     }
@@ -148,18 +187,22 @@ pub fn run<V: View>(
     requires told { All (λ v. V.mark v ≤ a) views.now }
     ensures { IfOk result (λ rows. rows ≡ shown (keys_of schema.now) scan.now (live_rows V.keys V.row_of views.now t)) }
 {
+    let tested = tested_ids(alloc, schema.key_columns(), scan)?;
     let ids = asked_ids(alloc, schema.key_columns(), scan)?;
-    let asked = Asked::of(scan, schema, &ids);
+    let asked = Asked::of(scan, schema, &tested, &ids);
     let mut hints = Hints::new(alloc, views.len())?;
     let mut row = WholeRow::new(alloc);
     let mut line = Vec::new(alloc);
     let mut rows = RowList::new(alloc);
     let mut after = None;
+    let mut seen: usize = 0;
     while let Some(key) = next_key(views, after, &mut hints) {
+        let few = rows.len() < seen / 2;
         push_line(
-            alloc, views, t, &asked, key, &mut hints, &mut row, &mut line, &mut rows,
+            alloc, views, t, &asked, key, few, &mut hints, &mut row, &mut line, &mut rows,
         )?;
         after = Some(key);
+        seen = seen.saturating_add(1);
     }
     Ok(rows)
 }

@@ -7,6 +7,7 @@ ghost use Rattle.kt_scan.specs.Encoded.{ids_with};
 ghost use Rattle.kt_scan.specs.Lines.{cut};
 ghost use Rattle.kt_scan.specs.Whole.{whole_in};
 
+use crate::cells::add;
 use crate::row::WholeRow;
 use kt_base::{Cell, CellRef, NoMemory};
 use kt_history::{ColumnIds, Pred, Scan, Test};
@@ -45,8 +46,8 @@ fn passes(test: &Test, cell: CellRef<'_>) -> bool
     }
 }
 
-// Whether a whole row passes all tests.
-fn kept(preds: &[Pred], columns: &[Column], row: &WholeRow<'_>) -> bool
+/// Whether a whole row passes all tests.
+pub fn kept(preds: &[Pred], columns: &[Column], row: &WholeRow<'_>) -> bool
     ensures { result ≡ kept preds.now (whole_in columns.now row.now) }
 {
     for pred in preds {
@@ -70,7 +71,7 @@ fn push_key<'v>(
         let Some((_, behind)) = rest.split_first() else {
             return Ok(());
         };
-        cells.push(*cell)?;
+        add(cells, *cell)?;
         rest = behind;
     }
     Ok(())
@@ -84,7 +85,7 @@ fn push_others<'v>(
     ensures { OnOk result (map cell_in cells.new.items ≡ map cell_in cells.old.items ++ map (λ c. c.1) (cells_in others.now)) }
 {
     for cell in others {
-        cells.push(cell.1)?;
+        add(cells, cell.1)?;
     }
     Ok(())
 }
@@ -99,7 +100,7 @@ fn push_under<'v>(
     ensures { OnOk result (map cell_in cells.new.items ≡ map cell_in cells.old.items ++ map (cell_of (whole_in columns.now row.now)) ids.now) }
 {
     for id in ids {
-        cells.push(row.cell(columns, *id))?;
+        add(cells, row.cell(columns, *id))?;
     }
     Ok(())
 }

@@ -1,6 +1,7 @@
 use Rattle.std.proofs.Common.{◌≡◌, ◌++◌, Option, Some, None, List, cond, sym, ap, ◌∙◌, subst}
 use Rattle.std.specs.Prelude.{OnOk}
 use Rattle.std.specs.Option.{option_to_list}
+use Rattle.std.proofs.lemmas.List.{append-nil}
 use Rattle.kt_base.specs.declared.cell.Cell.{Cell}
 use Rattle.kt_scan.specs.Encoded.{keys_of}
 use Rattle.kt_scan.specs.Live.{row_in}
@@ -15,3 +16,6 @@ returns g c =
     subst (λ (shown : Option (List Cell)). OnOk c.push_cut.result (c.push_cut.new.rows ≡ c.args.rows.now ++ option_to_list shown))
     (c.in_ok-read_for.ensures c.if-not-branch-2.false c.row_for.new.row ∙ sym told)
     c.push_cut.ensures
+
+pub returns-then-branch : goal.returns-then-branch
+returns-then-branch g c = sym (append-nil c.args.rows.now) ∙ ap (λ (line : Option (List Cell)). c.args.rows.now ++ option_to_list line) (sym (c.in_ok-fails.ensures c.if-branch.true))
