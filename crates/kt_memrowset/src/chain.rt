@@ -179,7 +179,7 @@ fn push_next(
     }
 }
 
-// Adds the change in this cell. Its cells are read where they lie, if one cell of the pool has them all, or else through a buffer.
+// Adds the change in this cell. Its cells are read where they lie, if one cell of the pool has them all, or else from cell to cell.
 fn push_link(
     pool: &Pool,
     key: &[u8],
@@ -187,7 +187,6 @@ fn push_link(
     begun: bool,
     head: Head,
     list: &mut ChangeList,
-    buffer: &mut Vec<u8>,
 ) -> Result<(), NoMemory>
     requires spelled { 23 ≤ length (bytes_at pool.now cell) }
     requires begun { begun ≡ true → EndsIn key.now list.old }
@@ -199,8 +198,7 @@ fn push_link(
         let bytes = pool.front(place, len);
         return push_next(list, key, begun, head, &bytes[21..]);
     }
-    read_into(pool, cell, buffer)?;
-    push_next(list, key, begun, head, &buffer[21..])
+    list.push_placed(key, head.ts, head.kind, pool, place, 21)
 }
 
 /// Lists the change in this cell, if it is at one of these times, as its bytes. It is told, and tells, whether the last change of
@@ -212,7 +210,6 @@ fn push_change(
     times: Times,
     begun: &mut bool,
     list: &mut ChangeList,
-    buffer: &mut Vec<u8>,
 ) -> Result<u32, NoMemory>
     requires link { IsLink pool.now (link_at pool.now cell) }
     requires begun { begun.old ≡ true → EndsIn key.now list.old }
@@ -222,20 +219,19 @@ fn push_change(
 {
     let head = head_in(pool, cell);
     if times.has(head.ts) {
-        push_link(pool, key, cell, *begun, head, list, buffer)?;
+        push_link(pool, key, cell, *begun, head, list)?;
         *begun = true;
     }
     Ok(head.next)
 }
 
-/// Lists the changes of a row at these times. They are read through a buffer where they do not lie together.
+/// Lists the changes of a row at these times.
 pub fn push_changes(
     pool: &Pool,
     key: &[u8],
     first: u32,
     times: Times,
     list: &mut ChangeList,
-    buffer: &mut Vec<u8>,
 ) -> Result<(), NoMemory>
     requires { IsChainAt pool.now first (chain pool.now first) }
     ensures { OnOk result (list.new ≡ list.old ++ changes_of times key.now (steps_of (chain pool.now first))) }
@@ -243,7 +239,7 @@ pub fn push_changes(
     let mut cell = first;
     let mut begun = false;
     while cell != NOTHING {
-        cell = push_change(pool, key, cell, times, &mut begun, list, buffer)?;
+        cell = push_change(pool, key, cell, times, &mut begun, list)?;
     }
     Ok(())
 }
@@ -257,7 +253,6 @@ pub fn push_row(
     times: Times,
     list: &mut ChangeList,
     keys: &mut Vec<u8>,
-    buffer: &mut Vec<u8>,
 ) -> Result<(), NoMemory>
     requires key { Stands pool.now key.cell }
     requires row { IsChainAt pool.now first (chain pool.now first) }
@@ -266,10 +261,10 @@ pub fn push_row(
     let len = pool.len(key);
     if len == 0 || len > WHOLE {
         read_into(pool, key.cell, keys)?;
-        push_changes(pool, keys, first, times, list, buffer)?;
+        push_changes(pool, keys, first, times, list)?;
         return Ok(());
     }
     let bytes = pool.front(key, len);
-    push_changes(pool, bytes, first, times, list, buffer)?;
+    push_changes(pool, bytes, first, times, list)?;
     Ok(())
 }

@@ -240,7 +240,6 @@ impl MemRowSet {
     {
         let mut list = ChangeList::new(alloc);
         let mut keys = Vec::new(alloc);
-        let mut buffer = Vec::new(alloc);
         let mut walk = self.tree.walk(alloc);
         let rows = self.tree.len();
         'rows: for at in 0..rows {
@@ -251,15 +250,7 @@ impl MemRowSet {
             let Some(pair) = next else {
                 break;
             };
-            push_row(
-                pool,
-                pair.key,
-                pair.value.cell,
-                times,
-                &mut list,
-                &mut keys,
-                &mut buffer,
-            )?;
+            push_row(pool, pair.key, pair.value.cell, times, &mut list, &mut keys)?;
         }
         Ok(list)
     }
