@@ -11,6 +11,7 @@ ghost use Rattle.kt_tablet.specs.Snaps.{rises, row_in, keys_in, is_above_at, is_
 
 use crate::amend::{fill_asked, fill_under};
 use kt_base::{Cells, NoMemory};
+use kt_cells::CellsRef;
 use kt_history::{ChangeList, ChangeRef, Kindly, RowRef};
 
 // Whether the change at a place, if there is one, is of a key above another.
@@ -158,6 +159,23 @@ fn base_after(base: Option<usize>, at: usize, change: ChangeRef<'_>, t: u64) -> 
     }
 }
 
+// Whether what a change says is of the column of the row's first cell alone, and so does not show under it, as its first bytes tell.
+fn is_hidden(row: &RowRef<'_>, cells: CellsRef<'_>) -> bool
+    ensures { result ≡ true → (old : Row) → with_cells row.now (with_cells (cells_in_ref cells.entry) old) ≡ with_cells row.now old }
+{
+    let Some(id) = cells.only_column() else {
+        return false;
+    };
+    let own = row.as_slice();
+    if 0 < own.len() {
+        let first = own[0].0;
+        if first == id {
+            return true;
+        }
+    }
+    false
+}
+
 // Lays a row over what an update says, if that is not later than the time.
 fn update_under<'v>(row: &mut RowRef<'v>, change: ChangeRef<'v>, t: u64) -> Result<(), NoMemory>
     ensures late { OnOk result (nat_le change.entry.ts t ≡ false → row.new ≡ row.old) }
@@ -169,6 +187,9 @@ fn update_under<'v>(row: &mut RowRef<'v>, change: ChangeRef<'v>, t: u64) -> Resu
     }
     match change.kind {
         Kindly::Upd => {
+            if is_hidden(row, change.cells) {
+                return Ok(());
+            }
             row.set_under(change.cells)?;
             Ok(())
         }
