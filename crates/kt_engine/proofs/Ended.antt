@@ -147,7 +147,7 @@ ended_run rules core super names notes later records places run s i j f outcomes
     }
 
 -- a write whose rows are all applied has one that is
-some_applied : (f : Aloft) → 0 < length f.ops → drop f.applied f.ops ≡ [] → 0 < f.applied
+pub some_applied : (f : Aloft) → 0 < length f.ops → drop f.applied f.ops ≡ [] → 0 < f.applied
 some_applied f more none = let a = length-drop f.applied f.ops in let b = ap length none in omega arith
 
 with_ended : {L D C : Type 0} (tells : Bool) (seen : L → Files) (now : L → ℕ) (leaves : L → ℕ → Files → Type 0) (faults : L → ℕ) (old : EngineView L D C) (s i : ℕ) (f : Aloft) (outcomes : List Outcome) (rows : List CommitRow) (tablet : View C) → IsEngine tells seen now leaves faults old

@@ -17,6 +17,7 @@ pub mod Opened
 pub mod Begun
 pub mod Applied
 pub mod Ended
+pub mod OfLogged
 pub mod Marks
 pub mod Lines
 pub mod Plans

@@ -23,7 +23,7 @@ use Rattle.kt_engine.specs.Logged.{PlanPasses}
 use Rattle.kt_engine.specs.Engines.{EngineView, IsContent}
 use Rattle.kt_engine.specs.Visits.{lent_of, out_of}
 use Rattle.kt_engine.specs.Stored.{RecoversPair}
-use Rattle.kt_engine.specs.Moments.{HoldsWithStore, IsAppendedTo, AppendsRecover, PublishesLeaveEither, WritesLeaveEither, EitherRecovers, LeavesInTurn}
+use Rattle.kt_engine.specs.Moments.{HoldsWithStore, IsAppendedTo, AppendsRecover, PublishesLeaveEither, WritesLeaveEither, EitherRecovers, LeavesInTurn, HasEitherSince}
 
 -- ---- calls on the log
 
@@ -128,3 +128,11 @@ module _ {D : Type 0} (tells : Bool) (seen : D → Files) (now : D → ℕ) (lea
           let low : slot < store.next_file = elim is [ inl one ↦ omega arith | inr two ↦ omega arith ] in
           let here = from.others slot (inl low) ∙ (side.publishes t).slots slot is from.image from.was_left in
           inl (sym (same_slot slot c (seen store.known) here) ∙ told)
+
+  -- At each moment of it a crash left one of both, and the files that it names
+  pub turn_leaves : (store : StoreView D) → IsSide tells seen now leaves faults store → IsTrue tells → (next : ℕ) (later : D) → LeavesInTurn seen now leaves store.lent store.next_file next store.known later → HasEitherSince seen now leaves store later
+  turn_leaves store side t next later run = by store.lent refl run
+    where
+      by : (lent : Option Meta) → store.lent ≡ lent → LeavesInTurn seen now leaves lent store.next_file next store.known later → HasEitherSince seen now leaves store later
+      by (Some meta) is r = publishes_leave_either store side t meta is later r
+      by None is r = writes_leave_either store side t next later r

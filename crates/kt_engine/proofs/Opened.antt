@@ -105,7 +105,7 @@ keeps_opened rules core super names notes records queued numbers trail aloft log
 abbrev pub opened_view : {L D C : Type 0} → View C → JournalView L → List Entry → Super → List Entry → StoreView D → D → L → EngineView L D C
 opened_view tablet journal records super queued store store_device device = record {
   tablet = tablet;
-  log = record { home = Some journal; known = journal; holder = None; out = []; queued = queued; room = 0; whole = true };
+  log = record { home = Some journal; known = journal; holder = None; out = []; queued = queued; room = 0; whole = true; first = journal.disk };
   records = records;
   super = super;
   device = device;

@@ -22,11 +22,11 @@ module _ {L D C : Type 0} (tells : Bool) (seen : L → Files) (now : L → ℕ) 
   made = record { tablet = kept; log = log; records = found; super = read; device = device; store = side; store_device = store_device; running = running; upkeep = upkeep; first_file = first_file; first_rowset = first_rowset; found = names }
 
   -- any statement of the one is one of the other
-  moved : (P : EngineView L D C → Type 0) → kept ≡ tablet → log ≡ record { home = Some journal; known = journal; holder = None; out = []; queued = queued; room = 0; whole = true } → found ≡ records → read ≡ super → side ≡ store → upkeep ≡ no_upkeep → first_file ≡ store.next_file → first_rowset ≡ store.next_rowset → names ≡ tablet.names
+  moved : (P : EngineView L D C → Type 0) → kept ≡ tablet → log ≡ record { home = Some journal; known = journal; holder = None; out = []; queued = queued; room = 0; whole = true; first = journal.disk } → found ≡ records → read ≡ super → side ≡ store → upkeep ≡ no_upkeep → first_file ≡ store.next_file → first_rowset ≡ store.next_rowset → names ≡ tablet.names
       → P (record (opened_view tablet journal records super queued store store_device device) { running = running }) → P made
   moved P is_tablet is_log is_found is_read is_store is_upkeep is_first is_rowset is_names h = rw (is_tablet, is_log, is_found, is_read, is_store, is_upkeep, is_first, is_rowset, is_names) h
 
-  pub opened_both : kept ≡ tablet → log ≡ record { home = Some journal; known = journal; holder = None; out = []; queued = queued; room = 0; whole = true } → found ≡ records → read ≡ super → side ≡ store → upkeep ≡ no_upkeep → first_file ≡ store.next_file → first_rowset ≡ store.next_rowset → names ≡ tablet.names
+  pub opened_both : kept ≡ tablet → log ≡ record { home = Some journal; known = journal; holder = None; out = []; queued = queued; room = 0; whole = true; first = journal.disk } → found ≡ records → read ≡ super → side ≡ store → upkeep ≡ no_upkeep → first_file ≡ store.next_file → first_rowset ≡ store.next_rowset → names ≡ tablet.names
       → IsEngine tells seen now leaves faults (opened_view tablet journal records super queued store store_device device) → IsStored tells seen store_tells store_seen store_faults (opened_view tablet journal records super queued store store_device device)
       → IsEngine tells seen now leaves faults made × IsStored tells seen store_tells store_seen store_faults made
   opened_both is_tablet is_log is_found is_read is_store is_upkeep is_first is_rowset is_names e s = (

@@ -83,9 +83,9 @@ apply_visit s at v tablet (Err e) h beside same = no_visit s v tablet same
 
 -- ---- the log beside it
 
--- who has the log out, and what went out with it
-abbrev pub lending : {L : Type 0} → SideView L → Option ℕ × List Entry × JournalView L
-lending log = (log.holder, log.out, log.known)
+-- who has the log out, what went out with it, and how it began
+abbrev pub lending : {L : Type 0} → SideView L → Option ℕ × List Entry × JournalView L × L
+lending log = (log.holder, log.out, log.known, log.first)
 
 beside_visit : {L D C : Type 0} (n : ℕ) (v : EngineView L D C) (tablet : View C) (log : SideView L) → IsVisit n v (record v { tablet = tablet }) → lending log ≡ lending v.log → IsVisit n v (record v { tablet = tablet; log = log })
 beside_visit n v tablet log a lent = record {
@@ -94,7 +94,7 @@ beside_visit n v tablet log a lent = record {
     pass = record { session = p.pass.session; place = p.pass.place; out = out_of (lent i).0 (lent i).1 k; runs = p.pass.runs; upkeep = p.pass.upkeep };
     lent = lent_of (lent i).0 (lent i).2 k;
     turn = p.turn;
-    root = p.root;
+    root = record p.root { first_log = (lent i).3 };
   };
 }
 
@@ -158,13 +158,13 @@ not_lent None free = refl
 not_lent (Some by) free = absurd (free by refl)
 
 -- the log goes out to this pass
-pub out_visit : {L D C : Type 0} (n : ℕ) (v : EngineView L D C) (log : SideView L) → v.log.holder ≡ None → log.holder ≡ Some n → IsVisit n v (record v { log = log })
-out_visit n v log home lent = record {
+pub out_visit : {L D C : Type 0} (n : ℕ) (v : EngineView L D C) (log : SideView L) → v.log.holder ≡ None → log.holder ≡ Some n → log.first ≡ v.log.first → IsVisit n v (record v { log = log })
+out_visit n v log home lent began = record {
   line = inl refl;
   parts = λ k ne.
       let out = ap (λ h. out_of h log.out k) lent ∙ none_out n k log.out ne ∙ sym (ap (λ h. out_of h v.log.out k) home) in
       let known = ap (λ h. lent_of h log.known k) lent ∙ none_lent n k log.known ne ∙ sym (ap (λ h. lent_of h v.log.known k) home) in
-      λ i. record { pass = record { session = part v.tablet.core k; place = place_at k v.tablet.places; out = out i; runs = runs k v.running; upkeep = upkeep_at k v.upkeep.passes }; lent = known i; turn = lent_of v.store.holder v.store k; root = root_of v };
+      λ i. record { pass = record { session = part v.tablet.core k; place = place_at k v.tablet.places; out = out i; runs = runs k v.running; upkeep = upkeep_at k v.upkeep.passes }; lent = known i; turn = lent_of v.store.holder v.store k; root = record (root_of v) { first_log = began i } };
 }
 
 -- ---- a turn of the store

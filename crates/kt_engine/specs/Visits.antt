@@ -47,7 +47,7 @@ pub record PassPart : Type 0 where
 abbrev pub part_of : {L D C : Type 0} → EngineView L D C → ℕ → PassPart
 part_of view n = record { session = part view.tablet.core n; place = place_at n view.tablet.places; out = out_of view.log.holder view.log.out n; runs = runs n view.running; upkeep = upkeep_at n view.upkeep.passes }
 
--- What is alike in every part and never changes while passes visit: what is to be run, what opening found, the names of its stores then and the first rowset and file numbers, and the columns of each superblock.
+-- What is alike in every part and never changes while passes visit: what is to be run, what opening found, the names of its stores then and the first rowset and file numbers, the columns of each superblock, and both devices as opening left them.
 pub record Root (L D C : Type 0) : Type 0 where
   pub work : Workload
   pub opened : ℕ
@@ -62,6 +62,7 @@ pub record Root (L D C : Type 0) : Type 0 where
   pub found : List Target
   pub first_rowset : ℕ
   pub first_file : ℕ
+  pub first_log : L
   pub first_store : Beginning D
 
 abbrev pub root_of : {L D C : Type 0} → EngineView L D C → Root L D C
@@ -79,6 +80,7 @@ root_of view = record {
   found = view.found;
   first_rowset = view.first_rowset;
   first_file = view.first_file;
+  first_log = view.log.first;
   first_store = view.store.first;
 }
 

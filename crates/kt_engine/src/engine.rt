@@ -9,6 +9,7 @@ ghost use Rattle.kt_tablet.specs.Plans.{PlanKeeps};
 ghost use Rattle.kt_tablet.specs.Views.{IsSound, IsExact, Opens};
 ghost use Rattle.std.specs.List.{All};
 ghost use Rattle.kt_loglaws.specs.Side.{all_of};
+ghost use Rattle.kt_loglaws.specs.Appended.{AreOfLogged, WasAppended};
 ghost use Rattle.kt_content.specs.Rules.{Rules, AreRules};
 ghost use Rattle.kt_content.specs.Content.{IsContent as HoldsPast};
 ghost use Rattle.kt_content.specs.RunEvents.{Numbers, NumbersAreFresh};
@@ -21,6 +22,7 @@ ghost use Rattle.kt_files.specs.Reading.{HoldAll};
 ghost use Rattle.kt_reopen.specs.Both.{super_in};
 ghost use Rattle.kt_reopen.specs.Opened.{AreReadOf};
 ghost use Rattle.kt_storeside.specs.Sides.{IsSide, SpellMade};
+ghost use Rattle.kt_storeside.specs.Published.{WasPublished};
 ghost use Rattle.kt_engine.specs.Engines.{EngineView, IsEngine, IsLogged, IsHome, KeepsOthers, TellsStop, LeavesRecords, Recovers, RecoversEach, RecoversAll, are_whole};
 ghost use Rattle.kt_engine.specs.Near.{first_number, LeavesRoom};
 ghost use Rattle.kt_engine.specs.Stored.{next_given, AreMarked, IsStored, RecoversPair, RecoversBoth, HasFailed};
@@ -102,7 +104,8 @@ fn boxed_log<L: Disk>(
 ) -> Result<Box<LogSide<L>>, Journal<L>>
     requires usable { IsTrue journal.usable }
     requires durable { IsTrue L.tells → Holds L.now L.leaves journal.disk (records_of (L.seen journal.disk)) }
-    ensures side { IfOk result (λ side. side.value ≡ record { home = Some journal; known = journal; holder = None; out = []; queued = queued; room = 0; whole = true }) }
+    requires of_logged { IsTrue L.tells → AreOfLogged (records_of (L.seen journal.disk)) queued }
+    ensures side { IfOk result (λ side. side.value ≡ record { home = Some journal; known = journal; holder = None; out = []; queued = queued; room = 0; whole = true; first = journal.disk }) }
     ensures back { IfErr result (λ back. back ≡ journal) }
 {
     let log = match LogSide::of(alloc, journal, queued) {
@@ -162,7 +165,7 @@ impl<L: Disk, D: Disk + Drop, C: Clock> Engine<L, D, C> {
         requires store_faults { D.faults found.store.value ≤ D.faults store.known }
         ensures view { IfOk result (λ engine. engine ≡ record {
           tablet = tablet;
-          log = record { home = Some journal; known = journal; holder = None; out = []; queued = queued; room = 0; whole = true };
+          log = record { home = Some journal; known = journal; holder = None; out = []; queued = queued; room = 0; whole = true; first = journal.disk };
           records = found.entry.records.now;
           super = found.entry.superblock.now;
           device = found.entry.device.value;
@@ -247,7 +250,9 @@ impl<L: Disk, D: Disk + Drop, C: Clock> Engine<L, D, C> {
     /// opening found and some of the run. What the pool has promised is what flying writes still need, and the REPLICATE of
     /// each is at its place among the records that are durable, out or queued. Each device is at home where no pass has it out. Under the superblock that is
     /// published, and under one that is lent, a crash leaves of both devices the opened past from its mark on, with the writes up to a time; and with all of
-    /// them, seen from the run's mark, where nothing waits and the superblock that is published has that mark and the last timestamp.
+    /// them, seen from the run's mark, where nothing waits and the superblock that is published has that mark and the last timestamp. At each moment since
+    /// opening a crash left of the log what was durable, or that and the batch that was out; and of the store the superblock that was published, or the one
+    /// that was lent, and the files that it names.
     pub fn standing(&self)
         ensures sound { IsSound C.readings self.now.tablet }
         ensures exact { IsExact self.now.tablet.core.aloft self.now.tablet.core.stores self.now.tablet.pool }
@@ -269,6 +274,8 @@ impl<L: Disk, D: Disk + Drop, C: Clock> Engine<L, D, C> {
         ensures recovers_all_of_both { IsTrue L.tells → IsTrue D.tells → RecoversAllOfBoth L.now L.leaves D.now D.leaves self.now }
         ensures published { IsTrue D.tells → LeavesPublished D.seen D.now D.leaves self.now }
         ensures made { IsTrue D.tells → (disk : D) → self.now.store.home ≡ Some disk → (image : _) → D.leaves disk (D.now disk) image → SpellMade D.seen self.now.store image }
+        ensures log_moments { IsTrue L.tells → (journal : JournalView L) → self.now.log.home ≡ Some journal → WasAppended L.seen L.now L.leaves self.now.log.whole self.now.log.first journal.disk }
+        ensures store_moments { IsTrue D.tells → (disk : D) → self.now.store.home ≡ Some disk → WasPublished D.seen D.now D.leaves self.now.store.first.device disk }
         ensures marked { AreMarked self.now }
         ensures failed { HasFailed L.faults D.faults self.now }
         ensures placed { map (λ p. p.0) self.now.tablet.places ≡ map (λ w. w.s) self.now.tablet.core.aloft }
@@ -282,6 +289,7 @@ impl<L: Disk, D: Disk + Drop, C: Clock> Engine<L, D, C> {
         let _ = self.log.by();
         self.store.standing();
         let _ = self.store.by();
+        self.log.standing();
     }
 
     /// The devices, the clock, the history, and the superblock that is published, where no pass has a device out.

@@ -2,6 +2,7 @@ use Rattle.std.proofs.Common.{◌≡◌, ◌<◌, ◌≤◌, ◌+◌, ◌^◌, l
 use Rattle.kt_tablet.specs.Visits.{holder_of}
 use Rattle.kt_engine.proofs.Begun.{plan_kept, may_on, has_begun}
 use Rattle.kt_engine.proofs.Both.{left_both, roomed_both, same_both}
+use Rattle.kt_engine.proofs.OfLogged.{replicate_logged}
 use Rattle.kt_engine.proofs.Upkeeps.{not_publishing}
 use Rattle.kt_engine.proofs.StoredWrites.{has_begun_stored}
 use Rattle.kt_engine.proofs.Visiting.{visit_of, lending, begun_visit_on}
@@ -57,3 +58,6 @@ returns-clause-visit g c =
     (begun_visit_on c.args.number c.args.index c.in-Ok-begin_free.ts c.next_place-place.result c.args.draft.now.write.ops _ c.ask.new.self c.begin_free.new.self c.push.new.self (rw c.deref_mut.ensures.value at c.in_ok-ask.ensures.same) (rw free_is at c.in-Ok-begin_free.ensures.begun) (rw free_is at c.begin_free.ensures.beside)
     (ap lending (rw c.deref_mut-4.ensures.value at c.push.ensures.queued) ∙ ap lending (rw c.deref_mut-2.ensures.value at c.make_room.ensures.log))
     (rw free_is at c.in-Ok-begin_free.ensures.placed))
+
+pub push-requires-clause-of_logged : goal.push-requires-clause-of_logged
+push-requires-clause-of_logged g c = λ t. replicate_logged _ _ _

@@ -4,6 +4,7 @@ use Rattle.kt_tablet.specs.Rows.{AreRecorded}
 use Rattle.kt_tablet.specs.Visits.{HasHandedOut, HeldBy}
 use Rattle.kt_engine.proofs.Runs.{not_true}
 use Rattle.kt_engine.proofs.Ended.{has_ended, has_room}
+use Rattle.kt_engine.proofs.OfLogged.{commit_logged}
 use Rattle.kt_engine.proofs.StoredWrites.{has_ended_stored}
 use Rattle.kt_engine.proofs.Visiting.{visit_of, lending, ended_visit}
 use Rattle.kt_engine.proofs.engine.Engine.end.Goals as goal
@@ -11,7 +12,13 @@ use Rattle.kt_engine.proofs.engine.Engine.end.Goals as goal
 pub push-requires : goal.push-requires
 push-requires g c =
     let ended = rw c.deref_mut.ensures.value at c.in_ok-ts.ensures.ended in
-    rw c.deref_mut-2.ensures.value (has_room _ _ _ _ _ _ ended.flight c.args.number ended.flies c.self.invariant.0)
+    let stopped = rw c.deref_mut.ensures.value at c.in_ok-ts.ensures.stopped in
+    let goes : c.self.inside.tablet.value.core.stopped ≡ false = not_true c.self.inside.tablet.value.core.stopped (λ b. stopped b) in
+    let may = (rw (← c.self.view_is) at c.requires) goes in
+    record {
+      room = rw c.deref_mut-2.ensures.value (has_room _ _ _ _ _ _ ended.flight c.args.number ended.flies c.self.invariant.0);
+      of_logged = rw c.deref_mut-2.ensures.value (commit_logged g.L.Disk.tells g.L.Disk.seen g.L.Disk.now g.L.Disk.leaves g.L.Disk.faults _ c.args.number c.in_ok-ts.field-0.ts ended.flight c.in_ok-ts.field-0.rows c.self.invariant.0 ended.flies (sym ended.time) may.over);
+    }
 
 pub invariant_of-self-2 : goal.invariant_of-self-2
 invariant_of-self-2 g c =

@@ -51,7 +51,7 @@ returns-clause-visit g c =
     visit_of _ _ _ _ c.self.view_is
     (out_visit c.args.number _ c.log_out.new.self
     (not_lent c.self.inside.log.value.holder (λ by h. let back = (out by).1 h in cc))
-    (ap (λ l. l.holder) (rw is at c.in_ok-log_out.ensures.lent.2)))
+    (ap (λ l. l.holder) (rw is at c.in_ok-log_out.ensures.lent.2)) (ap (λ l. l.first) (rw is at c.in_ok-log_out.ensures.lent.2)))
 
 -- a tablet that goes on has its log whole
 pub log_out-requires : goal.log_out-requires

@@ -1,6 +1,9 @@
-use Rattle.std.proofs.Common.{◌≡◌, ℕ, refl, sym, ap, ◌∙◌}
+use Rattle.std.proofs.Common.{◌≡◌, ℕ, List, refl, sym, ap, subst, ◌∙◌}
+use Rattle.kt_records.specs.declared.entry.Entry.{Entry}
+use Rattle.kt_loglaws.specs.Appended.{AreOfLogged}
 use Rattle.kt_engine.proofs.Opened.{is_opened}
 use Rattle.kt_engine.proofs.OpenedBoth.{opened_both}
+use Rattle.kt_engine.proofs.OfLogged.{queued_logged}
 use Rattle.kt_engine.proofs.StoreOpened.{store_opened}
 use Rattle.kt_engine.proofs.engine.Engine.of.Goals as goal
 
@@ -16,7 +19,10 @@ invariant_of-result g c =
     r.fresh.0 r.fresh.1 r.log r.commits r.taken_up r.numbers r.untold r.since r.last r.count r.reads r.store_home.1 r.superblock r.filed r.mark r.clock r.named r.deltas r.names r.store_faults (λ disk at. c.standing-2.ensures.whole r.store_home.2 disk at) r.room)
 
 pub boxed_log-requires : goal.boxed_log-requires
-boxed_log-requires g c = record { usable = c.requires.usable; durable = c.requires.durable }
+boxed_log-requires g c =
+    let r = c.requires in
+    let queued = c.args.queued in
+    record { usable = r.usable; durable = r.durable; of_logged = λ t. subst (λ (l : List Entry). AreOfLogged l queued) (sym (r.reads t)) (queued_logged c.args.found.records.now queued r.log r.commits) }
 
 pub take_apart-journal-requires : goal.take_apart-journal-requires
 take_apart-journal-requires g c = record { home = ap (λ l. l.holder) (c.into_inner-in-Err-new.ensures ∙ c.in-Ok-boxed_log.ensures.side) }

@@ -4,6 +4,8 @@ use Rattle.kt_disk.specs.Disk.{Files}
 use Rattle.kt_journal.specs.Open.{JournalView}
 use Rattle.kt_storeside.specs.Sides.{SpellMade}
 use Rattle.kt_loglaws.specs.Side.{all_of}
+use Rattle.kt_loglaws.specs.Appended.{WasAppended}
+use Rattle.kt_storeside.specs.Published.{WasPublished}
 use Rattle.kt_engine.specs.Logged.{IsPlaced, IsThere}
 use Rattle.kt_engine.specs.Engines.{EngineView, IsEngine, LeavesRecords, Recovers, RecoversEach, RecoversAll}
 use Rattle.kt_engine.proofs.Crashes.{leaves_records, recovers, recovers_each, recovers_all}
@@ -100,3 +102,11 @@ returns-clause-marked g c =
 pub returns-clause-made : goal.returns-clause-made
 returns-clause-made g c =
     subst (λ (v : EngineView _ _ _). IsTrue g.D.Disk.tells → (disk : _) → v.store.home ≡ Some disk → (image : Files) → g.D.Disk.leaves disk (g.D.Disk.now disk) image → SpellMade g.D.Disk.seen v.store image) c.self.view_is (rw c.deref-4.ensures at c.standing-2.ensures.made)
+
+pub returns-clause-log_moments : goal.returns-clause-log_moments
+returns-clause-log_moments g c =
+    subst (λ (v : EngineView _ _ _). IsTrue g.L.Disk.tells → (journal : JournalView _) → v.log.home ≡ Some journal → WasAppended g.L.Disk.seen g.L.Disk.now g.L.Disk.leaves v.log.whole v.log.first journal.disk) c.self.view_is (rw c.deref-6.ensures at c.standing-3.ensures.moments)
+
+pub returns-clause-store_moments : goal.returns-clause-store_moments
+returns-clause-store_moments g c =
+    subst (λ (v : EngineView _ _ _). IsTrue g.D.Disk.tells → (disk : _) → v.store.home ≡ Some disk → WasPublished g.D.Disk.seen g.D.Disk.now g.D.Disk.leaves v.store.first.device disk) c.self.view_is (rw c.deref-4.ensures at c.standing-2.ensures.moments)

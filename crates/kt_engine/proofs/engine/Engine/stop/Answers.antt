@@ -1,6 +1,6 @@
 use Rattle.std.proofs.Common.{sym, ap, ◌∙◌}
 use Rattle.kt_engine.proofs.Devices.{breaks, store_breaks}
-use Rattle.kt_engine.proofs.Moments.{turn_spells}
+use Rattle.kt_engine.proofs.Moments.{turn_spells, turn_leaves}
 use Rattle.kt_engine.proofs.Stored.{halted_stored, broken_stored, store_broken}
 use Rattle.kt_engine.proofs.Visiting.{visit_of, stop_visit}
 use Rattle.kt_engine.proofs.engine.Engine.stop.Goals as goal
@@ -45,3 +45,14 @@ returns-in-Store-clause-visit g c =
     let store = rw c.deref_mut-in-Store.ensures.value at c.come_broken.ensures in
     visit_of c.args.number _ _ _ c.self.view_is
     (stop_visit c.args.number _ c.stop.new.self c.come_broken.new.self (rw c.deref_mut.ensures.value at c.stop.ensures.halted) (rw c.deref_mut.ensures.value at c.stop.ensures.once) (rw old at (c.requires.store_out _ c.in-Store.is)) (ap (λ s. s.holder) store) (ap (λ s. s.meta.schema) store) (ap (λ s. s.first) store))
+
+-- at no moment has a crash left anything else than one of both
+pub broken-requires-clause-moments : goal.broken-requires-clause-moments
+broken-requires-clause-moments g c = λ told. let old = sym c.self.view_is in rw c.deref_mut-in-Log.ensures.value (rw old at (c.requires.log_moments _ c.in-Log.is told))
+
+pub come_broken-requires-clause-moments : goal.come_broken-requires-clause-moments
+come_broken-requires-clause-moments g c = λ told.
+    let old = sym c.self.view_is in
+    let side = rw c.deref.ensures at c.standing.ensures.side in
+    rw c.deref_mut-in-Store.ensures.value
+    (turn_leaves g.D.Disk.tells g.D.Disk.seen g.D.Disk.now g.D.Disk.leaves g.D.Disk.faults _ side told c.in-Store.lent.next_file c.in-Store.lent.device (rw old at (c.requires.store_moments _ c.in-Store.is told)))

@@ -2,7 +2,7 @@ use Rattle.std.proofs.Common.{◌≡◌, Option, refl, sym, ap, subst, ◌∙◌
 use Rattle.kt_disk.specs.Disk.{Files}
 use Rattle.kt_super.specs.declared.meta.Meta.{Meta}
 use Rattle.kt_storeside.specs.Sides.{SpellLent}
-use Rattle.kt_engine.proofs.Moments.{turn_spells}
+use Rattle.kt_engine.proofs.Moments.{turn_spells, turn_leaves}
 use Rattle.kt_engine.proofs.JobBoth.{its_job, older_than, came_both}
 use Rattle.kt_engine.proofs.StoreEvents.{home_both}
 use Rattle.kt_engine.proofs.StorePurposes.{same_columns}
@@ -84,3 +84,9 @@ come_home-requires-clause-spells g c = λ told.
     let device = c.args.lent.device in
     let spelled = turn_spells g.D.Disk.tells g.D.Disk.seen g.D.Disk.now g.D.Disk.leaves g.D.Disk.faults _ side told c.args.lent.next_file device (rw old at (c.requires.moments told)) (g.D.Disk.seen device) (g.met.D.Disk.reads_as_image device told) in
     rw (c.deref_mut.ensures.value) (subst (λ (o : Option Meta). SpellLent (g.D.Disk.seen store.known) o (g.D.Disk.seen device)) (sym (rw old at c.requires.meta)) spelled)
+
+pub come_home-requires-clause-moments : goal.come_home-requires-clause-moments
+come_home-requires-clause-moments g c = λ told.
+    let old = sym c.self.view_is in
+    let side = rw c.deref.ensures at c.standing.ensures.side in
+    rw (c.deref_mut.ensures.value) (turn_leaves g.D.Disk.tells g.D.Disk.seen g.D.Disk.now g.D.Disk.leaves g.D.Disk.faults _ side told c.args.lent.next_file c.args.lent.device (rw old at (c.requires.moments told)))
