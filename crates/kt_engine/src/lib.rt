@@ -5,6 +5,7 @@
 #![tactic(auto)]
 
 pub mod again;
+mod away;
 pub mod delta_job;
 pub mod engine;
 mod filled;
