@@ -26,7 +26,7 @@ use Rattle.kt_tablet.specs.Jobs.{HasFrozen}
 use Rattle.kt_engine.proofs.Filed.{none_at, before_job}
 use Rattle.kt_engine.proofs.Jobs.{before_over, frozen_keeps, frozen_stored, job_begins}
 use Rattle.kt_engine.proofs.Outside.{outside_upkeep}
-use Rattle.kt_engine.proofs.Outsiders.{not_outside, none_kept, none_beside, outside_kept, outside_beside}
+use Rattle.kt_engine.proofs.Outsiders.{not_outside, none_kept, none_beside, outside_kept, outside_beside, out_free}
 use Rattle.kt_engine.proofs.Stored.{upkeep_stored}
 use Rattle.kt_engine.proofs.Upkeeps.{jobs_kept, upkeep_keeps}
 
@@ -97,7 +97,7 @@ module _ {L D C : Type 0} (log_tells : Bool) (log_seen : L → Files) (log_now :
             (λ k job at. is.1.jobs k job (sym (jobs k) ∙ at))
             (λ k job at out.
             let was = is.1.outside k job (sym (jobs k) ∙ at) out in
-            outside_upkeep view.tablet view.store.meta view.store.lent view.upkeep view.records is.1.run job was upkeep (same.1 ∙ was.free.0) (λ zero_. sym same.0 ∙ zero_)),
+            outside_upkeep view.tablet view.store.meta view.store.lent view.upkeep view.records is.1.run job was upkeep (same.1 ∙ (out_free view.tablet view.store.meta view.store.lent view.upkeep (view.records ++ is.1.run) job was).0) (λ zero_. sym same.0 ∙ zero_)),
       )
 
   -- a place is made, or nothing has changed

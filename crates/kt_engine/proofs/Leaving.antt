@@ -1,10 +1,11 @@
 -- A job leaves the lock with what it read, and comes back.
-use Rattle.std.proofs.Common.{◌≡◌, ◌≢◌, ◌<◌, ◌+◌, ◌^◌, ℕ, suc, min, Bool, List, [], ◌∷◌, ◌++◌, length, map, take, Option, Some, None, refl, sym, ap, ◌∙◌, subst, arith, inl}
+use Rattle.std.proofs.Common.{◌≡◌, ◌≢◌, ◌<◌, ◌+◌, ◌^◌, ℕ, suc, min, Bool, List, [], ◌∷◌, ◌++◌, length, map, take, Option, Some, None, refl, sym, ap, ◌∙◌, subst, arith, inl, inr}
 use Rattle.std.specs.Prelude.{IsTrue}
 use Rattle.std.specs.List.{All, AllByRecursion}
 use Rattle.std.proofs.lemmas.List.{take_all}
 use Rattle.kt_disk.specs.Disk.{Files}
 use Rattle.kt_history.specs.declared.target.Target.{Target}
+use Rattle.kt_records.specs.declared.entry.Entry.{Entry}
 use Rattle.kt_history.specs.Grown.{AllGrown}
 use Rattle.kt_history.specs.History.{Past}
 use Rattle.kt_history.specs.Stores.{Hist}
@@ -26,24 +27,28 @@ use Rattle.kt_joblaws.proofs.Late.{nothing_later, late_apart}
 use Rattle.kt_joblaws.proofs.Standing.{stand_apart}
 use Rattle.kt_stores.specs.Takes.{Takes, rowsets as disks, files_taken}
 use Rattle.kt_tablet.specs.Views.{Opens, IsSound}
-use Rattle.kt_tablet.specs.Jobs.{taken_stores, taken_rowsets}
+use Rattle.kt_tablet.specs.Jobs.{files_of, taken_stores, taken_rowsets}
 use Rattle.kt_engine.specs.declared.upkeep.Stage.TheVariants as stage
+use Rattle.kt_engine.specs.declared.job.Returned.TheVariants as returned
+use Rattle.kt_engine.specs.DeltaJobs.{IsOn, IsRead}
 use Rattle.kt_engine.specs.Engines.{EngineView, IsEngine, IsFound, IsContent}
 use Rattle.kt_engine.specs.Jobs.{JobView, UpkeepsView, JobOn, HasUpkeep, IsAtStage, job_of, takes_of, upkeep_at}
+use Rattle.kt_engine.specs.JobCalls.{ByWant}
 use Rattle.kt_engine.specs.JobSteps.{TakesBy, TakesInputs}
 use Rattle.kt_engine.specs.Logged.{PlanPasses}
 use Rattle.kt_engine.specs.Near.{first_number}
-use Rattle.kt_engine.specs.Outside.{IsOutside, AreUpToInFiles, TakesDisks, TakesStill, hists_read, job_back, job_out}
+use Rattle.kt_engine.specs.Outside.{IsOutside, MergesOutside, Rewrites, RewritesOutside, AreUpToInFiles, TakesDisks, TakesStill, hists_read, job_back, job_out}
 use Rattle.kt_engine.specs.Over.{AreShelved}
-use Rattle.kt_engine.specs.Returning.{LeavesAs, HasReturned}
+use Rattle.kt_engine.specs.Returning.{LeavesAs, LeavesOne, HasReturned, HasReread, ReturnsBy}
 use Rattle.kt_engine.specs.Stored.{IsStored}
 use Rattle.kt_engine.proofs.GoesOut.{GoesWith, goes_with}
 use Rattle.kt_engine.proofs.JobBoth.{free_both}
 use Rattle.kt_engine.proofs.LaterFiles.{of_each_key, none_above}
 use Rattle.kt_engine.proofs.Lists.{all_none, some_one}
 use Rattle.kt_engine.proofs.Outside.{takes_disks}
-use Rattle.kt_engine.proofs.Outsiders.{not_outside}
+use Rattle.kt_engine.proofs.Outsiders.{a_merge, a_rewrite, not_outside}
 use Rattle.kt_engine.proofs.Rising.{records_rise}
+use Rattle.kt_engine.proofs.Stored.{filed_now}
 use Rattle.kt_engine.proofs.TakenRead.{own_are, own_under, rowsets_are_taken, passing_from}
 
 -- where nothing is, each is so
@@ -83,7 +88,7 @@ module _ {L D C : Type 0} (log_tells : Bool) (log_seen : L → Files) (tells : B
     subst (λ (b : ℕ). AllUnder (suc b) (hists_read job.want leaves.inputs q)) (sym leaves.bound) (subst (AllUnder (suc view.tablet.core.c)) (sym (its.read first opens q)) (its.apart first opens q).1),
   )
 
-  pub goes_outside : IsOutside view.tablet view.store.meta view.store.lent view.upkeep (view.records ++ is.run) (job_out view.tablet.frozen job)
+  pub goes_outside : MergesOutside view.tablet view.store.meta view.store.lent view.upkeep (view.records ++ is.run) (job_out view.tablet.frozen job)
   goes_outside = record {
     inputs = leaves.inputs;
     read = leaves.read;
@@ -105,6 +110,27 @@ module _ {L D C : Type 0} (log_tells : Bool) (log_seen : L → Files) (tells : B
     whole = λ first opens q. subst (λ (a : ℕ). AreApart a (hists q view.tablet.core.stores)) (sym (mark_is first opens)) (stand_apart (record view.tablet.core { first = first }) q (sound.stands first opens)).0;
     upto = λ first opens. of_each_key job.bound (files_taken job.taken view.tablet.files) (λ q. leaves.files job.bound q (under_bound first opens q));
   }
+
+-- one on the files of a disk rowset leaves with what it read
+pub one_goes : {L D C : Type 0} (view : EngineView L D C) (job : JobView) → view.upkeep.publishing ≡ None → view.store.lent ≡ None → view.upkeep.begun ≢ 0 → Rewrites job.want → LeavesOne view.tablet job → RewritesOutside view.tablet view.store.lent view.upkeep (job_out view.tablet.frozen job)
+one_goes view job free none begun on leaves = record {
+  on = on;
+  free = (free, none);
+  begun = begun;
+  was = leaves.was;
+  read = leaves.read;
+  held = leaves.held;
+}
+
+-- by its want
+pub leaves_by : {L D C : Type 0} (view : EngineView L D C) (records : List Entry) (job : JobView) → view.upkeep.publishing ≡ None → view.store.lent ≡ None → view.upkeep.begun ≢ 0
+    → (TakesInputs view job × LeavesAs view.tablet job → MergesOutside view.tablet view.store.meta view.store.lent view.upkeep records (job_out view.tablet.frozen job)) → (w : Want) → w ≡ job.want
+    → ByWant w (TakesInputs view job × LeavesAs view.tablet job) (λ rowset. LeavesOne view.tablet job) → IsOutside view.tablet view.store.meta view.store.lent view.upkeep records (job_out view.tablet.frozen job)
+leaves_by view records job free none begun merges want.Flush is may = inl (merges may)
+leaves_by view records job free none begun merges (want.Compact taken) is may = inl (merges may)
+leaves_by view records job free none begun merges (want.FlushDeltas r) is may = inr (one_goes view job free none begun (subst Rewrites is tt) may)
+leaves_by view records job free none begun merges (want.Minor r) is may = inr (one_goes view job free none begun (subst Rewrites is tt) may)
+leaves_by view records job free none begun merges (want.Major r) is may = inr (one_goes view job free none begun (subst Rewrites is tt) may)
 
 -- it has left: no other job has changed
 pub left_both : {L D C : Type 0} (log_tells : Bool) (log_seen : L → Files) (log_now : L → ℕ) (log_leaves : L → ℕ → Files → Type 0) (log_faults : L → ℕ) (tells : Bool) (seen : D → Files) (faults : D → ℕ) (view : EngineView L D C)
@@ -152,8 +178,8 @@ module _ {L D C : Type 0} (log_tells : Bool) (log_seen : L → Files) (log_now :
     (are : IsEngine log_tells log_seen log_now log_leaves log_faults view × IsStored log_tells log_seen tells seen faults view) (n : ℕ) (job : JobView) (had : job_of n view.upkeep ≡ Some job) (at : job.stage ≡ stage.Outside) (compacts : job.want ≡ want.Compact job.taken) (many last : ℕ) (list : List RowSetData)
     (count : many ≡ view.log.known.count + length (view.log.out ++ view.log.queued)) (active : last ≡ first_number view.tablet.names) (upkeep : UpkeepsView) (has : HasUpkeep n (record (upkeep_at n view.upkeep.passes) { job = Some (job_back many last list job) }) view.upkeep upkeep)
     (same : (upkeep.begun ≡ view.upkeep.begun) × (upkeep.publishing ≡ view.upkeep.publishing)) where
-  was : IsOutside view.tablet view.store.meta view.store.lent view.upkeep (view.records ++ are.1.run) job
-  was = are.1.outside n job had at
+  was : MergesOutside view.tablet view.store.meta view.store.lent view.upkeep (view.records ++ are.1.run) job
+  was = a_merge view.tablet view.store.meta view.store.lent view.upkeep (view.records ++ are.1.run) job (are.1.outside n job had at) (λ on. subst Rewrites compacts on)
 
   its_rowsets : TakesDisks view.tablet.names job
   its_rowsets = (subst (TakesStill view.tablet.names job) compacts was.takes).1
@@ -226,3 +252,39 @@ module _ {L D C : Type 0} (log_tells : Bool) (log_seen : L → Files) (log_now :
     mark = was.mark;
     passes = λ t rules first content plan. passes_now t calm rules first (record { closed = content.closed; opens = content.opens; holds = content.holds }) plan;
   }
+
+-- one on the files of a disk rowset comes back with all that this has now
+module _ {L D C : Type 0} (log_tells : Bool) (log_seen : L → Files) (log_now : L → ℕ) (log_leaves : L → ℕ → Files → Type 0) (log_faults : L → ℕ) (tells : Bool) (seen : D → Files) (faults : D → ℕ) (view : EngineView L D C)
+    (are : IsEngine log_tells log_seen log_now log_leaves log_faults view × IsStored log_tells log_seen tells seen faults view) (n : ℕ) (job : JobView) (had : job_of n view.upkeep ≡ Some job) (at : job.stage ≡ stage.Outside) (on : Rewrites job.want) (dms : ℕ) (d : RowSetData)
+    (upkeep : UpkeepsView) (has : HasUpkeep n (record (upkeep_at n view.upkeep.passes) { job = Some (record job { stage = stage.Read; dms = dms; read = Some d }) }) view.upkeep upkeep)
+    (same : (upkeep.begun ≡ view.upkeep.begun) × (upkeep.publishing ≡ view.upkeep.publishing)) where
+  rewrites : RewritesOutside view.tablet view.store.lent view.upkeep job
+  rewrites = a_rewrite view.tablet view.store.meta view.store.lent view.upkeep (view.records ++ are.1.run) job (are.1.outside n job had at) on
+
+  pub reread_both : IsEngine log_tells log_seen log_now log_leaves log_faults (record view { upkeep = upkeep }) × IsStored log_tells log_seen tells seen faults (record view { upkeep = upkeep })
+  reread_both =
+      let on = are.1.jobs n job had in
+      free_both log_tells log_seen log_now log_leaves log_faults tells seen faults view upkeep n (record (upkeep_at n view.upkeep.passes) { job = Some (record job { stage = stage.Read; dms = dms; read = Some d }) }) has rewrites.free.0 same are
+      (λ j e. subst (JobOn (view.records ++ are.1.run)) (some_one (record job { stage = stage.Read; dms = dms; read = Some d }) j e) (record { many = on.many; names = on.names }))
+      (λ j e out. absurd (not_outside stage.Read refl (ap (λ (x : JobView). x.stage) (some_one (record job { stage = stage.Read; dms = dms; read = Some d }) j e) ∙ out)))
+
+  pub has_reread : IsRead view.tablet job.rowset dms d → files_of d.number view.tablet.files ≡ Some (held_in d) → HasReread tells seen n job d view (record view { upkeep = upkeep })
+  has_reread is held = record {
+    dms = dms;
+    is = is;
+    held = held;
+    filed = filed_now log_tells log_seen tells seen faults view are.1 rewrites.free.0 view.store.meta (inl refl) d.number (held_in d) held;
+    was = rewrites.was;
+    read = rewrites.read;
+    same = some_one (held_in d) (held_in rewrites.was) (sym held ∙ ap (λ (r : ℕ). files_of r view.tablet.files) is.number ∙ rewrites.held);
+    at = record { upkeep = has; begun = same; beside = refl };
+    free = same.1 ∙ rewrites.free.0;
+    begun = λ none. rewrites.begun (sym same.0 ∙ none);
+  }
+
+pub rereads_by : {L D C : Type 0} (tells : Bool) (seen : D → Files) (n : ℕ) (job : JobView) (d : RowSetData) (old new : EngineView L D C) (w : Want) (r : ℕ) → IsOn r w → HasReread tells seen n job d old new → ReturnsBy w tells seen n job (returned.Rowset d) old new
+rereads_by tells seen n job d old new want.Flush r on has = absurd on
+rereads_by tells seen n job d old new (want.Compact taken) r on has = absurd on
+rereads_by tells seen n job d old new (want.FlushDeltas s) r on has = has
+rereads_by tells seen n job d old new (want.Minor s) r on has = has
+rereads_by tells seen n job d old new (want.Major s) r on has = has

@@ -1,5 +1,5 @@
 -- A job that is outside the lock finds its disk rowsets with what it took, and later changes behind, after each event.
-use Rattle.std.proofs.Common.{◌≡◌, ◌<◌, ◌≤◌, ◌+◌, ◌≢◌, ℕ, zero, suc, Bool, true, false, cond, List, [], ◌∷◌, ◌++◌, length, map, take, drop, Option, Some, None, refl, sym, ap, ◌∙◌, subst, arith}
+use Rattle.std.proofs.Common.{◌≡◌, ◌<◌, ◌≤◌, ◌+◌, ◌≢◌, ℕ, zero, suc, Bool, true, false, cond, List, [], ◌∷◌, ◌++◌, length, map, take, drop, Option, Some, None, refl, sym, ap, ◌∙◌, subst, arith, inl, inr}
 use Rattle.std.specs.Prelude.{◌==◌, not, is_some, slice_get}
 use Rattle.std.specs.List.{AllByRecursion, remove}
 use Rattle.std.specs.FinMap.Entries.{put}
@@ -41,10 +41,11 @@ use Rattle.kt_joblaws.proofs.Late.{comes_later}
 use Rattle.kt_joblaws.proofs.Pushed.{vacant_apart, pushed_apart}
 use Rattle.kt_stores.specs.Takes.{Takes, mems, rowsets as disks, takes, of_taken}
 use Rattle.kt_tablet.specs.Rows.{commit_row}
+use Rattle.kt_tablet.specs.Jobs.{files_of}
 use Rattle.kt_tablet.specs.Views.{View, Opens}
 use Rattle.kt_engine.specs.Jobs.{JobView, UpkeepsView, takes_by, takes_of}
 use Rattle.kt_engine.specs.Near.{first_number}
-use Rattle.kt_engine.specs.Outside.{IsOutside, TakesStill, hists_read}
+use Rattle.kt_engine.specs.Outside.{IsOutside, MergesOutside, RewritesOutside, TakesStill, hists_read}
 use Rattle.kt_engine.specs.Over.{AreLeft}
 use Rattle.kt_engine.proofs.JobBegins.{drop_first}
 use Rattle.kt_engine.proofs.LaterRows.{among, taken_changed, taken_has, left_changed}
@@ -188,7 +189,7 @@ pub record IsChanged (fill : Row) (old new : List Store) (i ts : ℕ) (op : RowO
   pub under : AllUnder ts (hists op.key old)
   pub fit : (k : ℕ) (c : Change) → i ≡ suc k → x ≡ Some c → (is_insert c ≡ false) × (is_some (nth_option i (map last_row (hists op.key old))) ≡ true)
 
-module _ {C : Type 0} (v : View C) (meta : Meta) (lent : Option Meta) (upkeep : UpkeepsView) (records run : List Entry) (job : JobView) (is : IsOutside v meta lent upkeep (records ++ run) job) where
+module _ {C : Type 0} (v : View C) (meta : Meta) (lent : Option Meta) (upkeep : UpkeepsView) (records run : List Entry) (job : JobView) (is : MergesOutside v meta lent upkeep (records ++ run) job) where
   abbrev own : Numbers
   own = before job.first_rowset (first_number v.names)
 
@@ -196,8 +197,8 @@ module _ {C : Type 0} (v : View C) (meta : Meta) (lent : Option Meta) (upkeep : 
   Above w = job.bound < w.ts
 
   -- a line
-  pub outside_line : (e : Event) (a c : ℕ) (turns : List Turn) (stopped : Bool) (clock : C) → v.core.a ≤ a → v.core.c ≤ c → IsOutside (with_line v e a c turns stopped clock) meta lent upkeep (records ++ run) job
-  outside_line e a c turns stopped clock rise up = record {
+  merges_line : (e : Event) (a c : ℕ) (turns : List Turn) (stopped : Bool) (clock : C) → v.core.a ≤ a → v.core.c ≤ c → MergesOutside (with_line v e a c turns stopped clock) meta lent upkeep (records ++ run) job
+  merges_line e a c turns stopped clock rise up = record {
     inputs = is.inputs;
     read = is.read;
     free = is.free;
@@ -220,8 +221,8 @@ module _ {C : Type 0} (v : View C) (meta : Meta) (lent : Option Meta) (upkeep : 
   }
 
   -- passes have something else of maintenance, and no job publishes
-  pub outside_upkeep : (now : UpkeepsView) → now.publishing ≡ None → (now.begun ≡ 0 → upkeep.begun ≡ 0) → IsOutside v meta lent now (records ++ run) job
-  outside_upkeep now free counted = record {
+  merges_upkeep : (now : UpkeepsView) → now.publishing ≡ None → (now.begun ≡ 0 → upkeep.begun ≡ 0) → MergesOutside v meta lent now (records ++ run) job
+  merges_upkeep now free counted = record {
     inputs = is.inputs;
     read = is.read;
     free = (free, is.free.1);
@@ -244,8 +245,8 @@ module _ {C : Type 0} (v : View C) (meta : Meta) (lent : Option Meta) (upkeep : 
   }
 
   -- a plan is taken
-  pub outside_planned : (work : Workload) (turns : List Turn) → IsOutside (record v { core = record v.core { work = work; turns = turns } }) meta lent upkeep (records ++ run) job
-  outside_planned work turns = record {
+  merges_planned : (work : Workload) (turns : List Turn) → MergesOutside (record v { core = record v.core { work = work; turns = turns } }) meta lent upkeep (records ++ run) job
+  merges_planned work turns = record {
     inputs = is.inputs;
     read = is.read;
     free = is.free;
@@ -268,9 +269,9 @@ module _ {C : Type 0} (v : View C) (meta : Meta) (lent : Option Meta) (upkeep : 
   }
 
   -- a write begins: its timestamp is a new one, and its REPLICATE names nothing
-  pub outside_begun : (s i ts m place : ℕ) (ops : List RowOp) (new : View C) → v.core.c < ts
-      → IsOutside (record v { core = begun v.core s i ts m ops; clock = new.clock; notes = v.notes ++ [] ∷ []; places = v.places ++ (s, place) ∷ []; pool = new.pool }) meta lent upkeep (records ++ (run ++ Replicate ts ops ∷ [])) job
-  outside_begun s i ts m place ops new above = record {
+  merges_begun : (s i ts m place : ℕ) (ops : List RowOp) (new : View C) → v.core.c < ts
+      → MergesOutside (record v { core = begun v.core s i ts m ops; clock = new.clock; notes = v.notes ++ [] ∷ []; places = v.places ++ (s, place) ∷ []; pool = new.pool }) meta lent upkeep (records ++ (run ++ Replicate ts ops ∷ [])) job
+  merges_begun s i ts m place ops new above = record {
     inputs = is.inputs;
     read = is.read;
     free = is.free;
@@ -295,9 +296,9 @@ module _ {C : Type 0} (v : View C) (meta : Meta) (lent : Option Meta) (upkeep : 
   }
 
   -- it ends: its COMMIT names what was noted of it
-  pub outside_ended : (s i ts j : ℕ) (rows : List CommitRow) (notes : List (List CommitRow)) (places : List (ℕ × ℕ)) → slice_get v.notes j ≡ Some rows → notes ≡ remove v.notes j
-      → IsOutside (record v { core = ended v.core s i ts; notes = notes; places = places }) meta lent upkeep (records ++ (run ++ Commit ts rows ∷ [])) job
-  outside_ended s i ts j rows notes places at same = record {
+  merges_ended : (s i ts j : ℕ) (rows : List CommitRow) (notes : List (List CommitRow)) (places : List (ℕ × ℕ)) → slice_get v.notes j ≡ Some rows → notes ≡ remove v.notes j
+      → MergesOutside (record v { core = ended v.core s i ts; notes = notes; places = places }) meta lent upkeep (records ++ (run ++ Commit ts rows ∷ [])) job
+  merges_ended s i ts j rows notes places at same = record {
     inputs = is.inputs;
     read = is.read;
     free = is.free;
@@ -320,8 +321,8 @@ module _ {C : Type 0} (v : View C) (meta : Meta) (lent : Option Meta) (upkeep : 
   }
 
   -- the MemRowSet that takes inserts freezes
-  pub outside_frozen : (n : ℕ) (others : List Target) → v.names ≡ Mem n ∷ others → IsOutside (record v { core = record v.core { stores = [] ∷ v.core.stores }; names = Mem (n + 1) ∷ v.names; frozen = v.frozen + 1 }) meta lent upkeep (records ++ run) job
-  outside_frozen n others was =
+  merges_frozen : (n : ℕ) (others : List Target) → v.names ≡ Mem n ∷ others → MergesOutside (record v { core = record v.core { stores = [] ∷ v.core.stores }; names = Mem (n + 1) ∷ v.names; frozen = v.frozen + 1 }) meta lent upkeep (records ++ run) job
+  merges_frozen n others was =
       let first : first_number v.names ≡ n = ap first_number was in
       let more : Numbers = before job.first_rowset (n + 1) in
       record {
@@ -391,11 +392,11 @@ module _ {C : Type 0} (v : View C) (meta : Meta) (lent : Option Meta) (upkeep : 
       by false e = subst (λ (ss : List Store). AllHaveLater job.bound (hists_read job.want is.inputs k) (hists k ss)) (sym (left_changed (takes_of job) f i name names stores there e)) (is.later first opens k)
 
   -- a row is applied
-  pub outside_applied : (j i ts : ℕ) (op : RowOp) (x : Option Change) (name : Target) (o : Outcome) (stores : List Store) (notes : List (List CommitRow)) (pool : Contents)
+  merges_applied : (j i ts : ℕ) (op : RowOp) (x : Option Change) (name : Target) (o : Outcome) (stores : List Store) (notes : List (List CommitRow)) (pool : Contents)
       → length stores ≡ length v.core.stores → ((first : Past) → Opens v.opening v.mark v.core.opened first → IsChanged v.core.work.fill v.core.stores stores i ts op x)
       → notes ≡ on_nth j (λ rows. rows ++ commit_row name o ∷ []) v.notes → slice_get v.names i ≡ Some name → IsBelow own name → job.bound < ts
-      → IsOutside (record v { core = record v.core { aloft = on_nth j advance v.core.aloft; stores = stores }; notes = notes; pool = pool }) meta lent upkeep (records ++ run) job
-  outside_applied j i ts op x name o stores notes pool as_long told notes_are at low above = record {
+      → MergesOutside (record v { core = record v.core { aloft = on_nth j advance v.core.aloft; stores = stores }; notes = notes; pool = pool }) meta lent upkeep (records ++ run) job
+  merges_applied j i ts op x name o stores notes pool as_long told notes_are at low above = record {
     inputs = is.inputs;
     read = is.read;
     free = is.free;
@@ -441,3 +442,50 @@ module _ {C : Type 0} (v : View C) (meta : Meta) (lent : Option Meta) (upkeep : 
           let changes = told first opens in
           let own_change = changes.fit n c here its in
           later_changed first opens n ts op.key c name (ap (slice_get v.names) (sym here) ∙ at) own_change.0 above changes.under (ap (λ m. is_some (nth_option m (map last_row (hists op.key v.core.stores)))) (sym here) ∙ own_change.1) k
+
+-- ---- either
+
+-- the rowset of one on its files has those that it had
+still_has : {C : Type 0} (v w : View C) (lent now : Option Meta) (upkeep later : UpkeepsView) (job : JobView) → w.files ≡ v.files → (later.publishing ≡ None) × (now ≡ None) → (later.begun ≡ 0 → upkeep.begun ≡ 0) → RewritesOutside v lent upkeep job → RewritesOutside w now later job
+still_has v w lent now upkeep later job files free counted is = record {
+  on = is.on;
+  free = free;
+  begun = λ none. is.begun (counted none);
+  was = is.was;
+  read = is.read;
+  held = ap (files_of job.rowset) files ∙ is.held;
+}
+
+module _ {C : Type 0} (v : View C) (meta : Meta) (lent : Option Meta) (upkeep : UpkeepsView) (records run : List Entry) (job : JobView) (is : IsOutside v meta lent upkeep (records ++ run) job) where
+  -- a line
+  pub outside_line : (e : Event) (a c : ℕ) (turns : List Turn) (stopped : Bool) (clock : C) → v.core.a ≤ a → v.core.c ≤ c → IsOutside (with_line v e a c turns stopped clock) meta lent upkeep (records ++ run) job
+  outside_line e a c turns stopped clock rise up = elim is [ inl all ↦ inl (merges_line v meta lent upkeep records run job all e a c turns stopped clock rise up) | inr r ↦ inr (still_has v _ lent lent upkeep upkeep job refl r.free (λ none. none) r) ]
+
+  -- passes have something else of maintenance, and no job publishes
+  pub outside_upkeep : (now : UpkeepsView) → now.publishing ≡ None → (now.begun ≡ 0 → upkeep.begun ≡ 0) → IsOutside v meta lent now (records ++ run) job
+  outside_upkeep now free counted = elim is [ inl all ↦ inl (merges_upkeep v meta lent upkeep records run job all now free counted) | inr r ↦ inr (still_has v _ lent lent upkeep now job refl (free, r.free.1) counted r) ]
+
+  -- a plan is taken
+  pub outside_planned : (work : Workload) (turns : List Turn) → IsOutside (record v { core = record v.core { work = work; turns = turns } }) meta lent upkeep (records ++ run) job
+  outside_planned work turns = elim is [ inl all ↦ inl (merges_planned v meta lent upkeep records run job all work turns) | inr r ↦ inr (still_has v _ lent lent upkeep upkeep job refl r.free (λ none. none) r) ]
+
+  -- a write begins
+  pub outside_begun : (s i ts m place : ℕ) (ops : List RowOp) (new : View C) → v.core.c < ts
+      → IsOutside (record v { core = begun v.core s i ts m ops; clock = new.clock; notes = v.notes ++ [] ∷ []; places = v.places ++ (s, place) ∷ []; pool = new.pool }) meta lent upkeep (records ++ (run ++ Replicate ts ops ∷ [])) job
+  outside_begun s i ts m place ops new above = elim is [ inl all ↦ inl (merges_begun v meta lent upkeep records run job all s i ts m place ops new above) | inr r ↦ inr (still_has v _ lent lent upkeep upkeep job refl r.free (λ none. none) r) ]
+
+  -- it ends
+  pub outside_ended : (s i ts j : ℕ) (rows : List CommitRow) (notes : List (List CommitRow)) (places : List (ℕ × ℕ)) → slice_get v.notes j ≡ Some rows → notes ≡ remove v.notes j
+      → IsOutside (record v { core = ended v.core s i ts; notes = notes; places = places }) meta lent upkeep (records ++ (run ++ Commit ts rows ∷ [])) job
+  outside_ended s i ts j rows notes places at same = elim is [ inl all ↦ inl (merges_ended v meta lent upkeep records run job all s i ts j rows notes places at same) | inr r ↦ inr (still_has v _ lent lent upkeep upkeep job refl r.free (λ none. none) r) ]
+
+  -- the MemRowSet that takes inserts freezes
+  pub outside_frozen : (n : ℕ) (others : List Target) → v.names ≡ Mem n ∷ others → IsOutside (record v { core = record v.core { stores = [] ∷ v.core.stores }; names = Mem (n + 1) ∷ v.names; frozen = v.frozen + 1 }) meta lent upkeep (records ++ run) job
+  outside_frozen n others was = elim is [ inl all ↦ inl (merges_frozen v meta lent upkeep records run job all n others was) | inr r ↦ inr (still_has v _ lent lent upkeep upkeep job refl r.free (λ none. none) r) ]
+
+  -- a row is applied
+  pub outside_applied : (j i ts : ℕ) (op : RowOp) (x : Option Change) (name : Target) (o : Outcome) (stores : List Store) (notes : List (List CommitRow)) (pool : Contents)
+      → length stores ≡ length v.core.stores → ((first : Past) → Opens v.opening v.mark v.core.opened first → IsChanged v.core.work.fill v.core.stores stores i ts op x)
+      → notes ≡ on_nth j (λ rows. rows ++ commit_row name o ∷ []) v.notes → slice_get v.names i ≡ Some name → (MergesOutside v meta lent upkeep (records ++ run) job → IsBelow (before job.first_rowset (first_number v.names)) name × (job.bound < ts))
+      → IsOutside (record v { core = record v.core { aloft = on_nth j advance v.core.aloft; stores = stores }; notes = notes; pool = pool }) meta lent upkeep (records ++ run) job
+  outside_applied j i ts op x name o stores notes pool as_long told notes_are at low = elim is [ inl all ↦ inl (merges_applied v meta lent upkeep records run job all j i ts op x name o stores notes pool as_long told notes_are at (low all).0 (low all).1) | inr r ↦ inr (still_has v _ lent lent upkeep upkeep job refl r.free (λ none. none) r) ]

@@ -1,7 +1,10 @@
 -- The jobs of an engine that are outside, as passes have something else of maintenance and the store goes and comes.
-use Rattle.std.proofs.Common.{◌≡◌, ℕ, Bool, true, false, List, [], ◌∷◌, ◌++◌, map, Option, Some, None, refl, sym, ap, ◌∙◌, subst, cond}
+use Rattle.std.proofs.Common.{◌≡◌, ℕ, Bool, true, false, List, [], ◌∷◌, ◌++◌, map, Option, Some, None, refl, sym, ap, ◌∙◌, subst, cond, inl, inr}
 use Rattle.std.specs.Prelude.{◌==◌, ◌||◌}
 use Rattle.std.specs.List.{list_any}
+use Rattle.kt_history.specs.declared.target.Target.{Target}
+use Rattle.kt_pick.specs.declared.rules.Want.{Want}
+use Rattle.kt_pick.specs.declared.rules.Want.TheVariants as want
 use Rattle.kt_records.specs.declared.entry.Entry.{Entry}
 use Rattle.kt_super.specs.declared.meta.Meta.{Meta}
 use Rattle.kt_storeside.specs.Sides.{published_in}
@@ -10,10 +13,13 @@ use Rattle.kt_engine.specs.declared.upkeep.Stage.{Stage}
 use Rattle.kt_engine.specs.declared.upkeep.Stage.TheVariants as stage
 use Rattle.kt_engine.specs.Engines.{EngineView}
 use Rattle.kt_engine.specs.Jobs.{JobView, UpkeepView, UpkeepsView, HasUpkeep, job_of, upkeep_at}
-use Rattle.kt_engine.specs.Outside.{IsOutside, is_at_outside, is_outside, any_outside}
+use Rattle.kt_engine.specs.DeltaJobs.{IsOn}
+use Rattle.kt_engine.specs.JobSteps.{IsMerge}
+use Rattle.kt_engine.specs.Outside.{IsOutside, MergesOutside, Rewrites, RewritesOutside, TakesStill, is_at_outside, is_outside, any_outside}
 use Rattle.kt_engine.specs.Stored.{AreOutside}
 use Rattle.kt_engine.specs.declared.upkeep.Upkeep.{Upkeep}
 use Rattle.kt_engine.specs.Upkeeps.{upkeep_of}
+use Rattle.kt_engine.proofs.Lists.{some_one}
 use Rattle.kt_engine.proofs.Outside.{outside_upkeep}
 use Rattle.kt_engine.proofs.Upkeeps.{each_kept}
 
@@ -48,15 +54,53 @@ none_is_outside upkeep none n job has at = let no : true ≡ false = sym (outsid
 pub none_kept : (n : ℕ) (u : UpkeepView) (old new : UpkeepsView) → HasUpkeep n u old new → ((job : JobView) → u.job ≡ Some job → is_at_outside job.stage ≡ false) → NoneOutside old → NoneOutside new
 none_kept n u old new has own none = each_kept (λ (job : JobView). job.stage ≡ stage.Outside → ⊥) n u old new has (λ job e. not_outside job.stage (own job e)) none
 
+-- ---- what it does
+
+-- one that merges writes no files of a rowset again
+none_both : (names : List Target) (job : JobView) (w : Want) → TakesStill names job w → Rewrites w → ⊥
+none_both names job want.Flush takes on = on
+none_both names job (want.Compact taken) takes on = on
+none_both names job (want.FlushDeltas r) takes on = takes
+none_both names job (want.Minor r) takes on = takes
+none_both names job (want.Major r) takes on = takes
+
+pub merge_no_rewrite : (w : Want) → IsMerge w → Rewrites w → ⊥
+merge_no_rewrite want.Flush merges on = on
+merge_no_rewrite (want.Compact taken) merges on = on
+merge_no_rewrite (want.FlushDeltas r) merges on = merges
+merge_no_rewrite (want.Minor r) merges on = merges
+merge_no_rewrite (want.Major r) merges on = merges
+
+pub on_rewrites : (r : ℕ) (w : Want) → IsOn r w → Rewrites w
+on_rewrites r want.Flush on = absurd on
+on_rewrites r (want.Compact taken) on = absurd on
+on_rewrites r (want.FlushDeltas s) on = tt
+on_rewrites r (want.Minor s) on = tt
+on_rewrites r (want.Major s) on = tt
+
+-- the job of a pass does, by another name
+pub same_rewrites : (n : ℕ) (v : UpkeepsView) (known job : JobView) → job_of n v ≡ Some known → job_of n v ≡ Some job → Rewrites known.want → Rewrites job.want
+same_rewrites n v known job was had on = subst (λ (j : JobView). Rewrites j.want) (some_one known job (sym was ∙ had)) on
+
+module _ {C : Type 0} (v : View C) (meta : Meta) (lent : Option Meta) (upkeep : UpkeepsView) (records : List Entry) (job : JobView) (is : IsOutside v meta lent upkeep records job) where
+  pub a_merge : (Rewrites job.want → ⊥) → MergesOutside v meta lent upkeep records job
+  a_merge other = elim is [ inl m ↦ m | inr r ↦ absurd (other r.on) ]
+
+  pub a_rewrite : Rewrites job.want → RewritesOutside v lent upkeep job
+  a_rewrite on = elim is [ inl m ↦ absurd (none_both v.names job job.want m.takes on) | inr r ↦ r ]
+
+  pub out_free : (upkeep.publishing ≡ None) × (lent ≡ None)
+  out_free = elim is [ inl m ↦ m.free | inr r ↦ r.free ]
+
 -- ---- the store
 
 module _ {C : Type 0} (v : View C) (meta : Meta) (lent : Option Meta) (upkeep : UpkeepsView) (records : List Entry) (job : JobView) (is : IsOutside v meta lent upkeep records job) where
   -- it is lent without a superblock, or has come home
   pub outside_lent : (now : Option Meta) → now ≡ None → IsOutside v meta now upkeep records job
-  outside_lent now none = subst (λ (m : Option Meta). IsOutside v meta m upkeep records job) (is.free.1 ∙ sym none) is
+  outside_lent now none = subst (λ (m : Option Meta). IsOutside v meta m upkeep records job) ((out_free v meta lent upkeep records job is).1 ∙ sym none) is
 
   pub outside_home : (now : Meta) (later : Option Meta) (published : Bool) → now ≡ published_in published lent meta → later ≡ None → IsOutside v now later upkeep records job
-  outside_home now later published came none = subst (λ (m : Meta). IsOutside v m later upkeep records job) (sym (came ∙ ap (λ (o : Option Meta). published_in published o meta) is.free.1 ∙ same published)) (outside_lent later none)
+  outside_home now later published came none = subst (λ (m : Meta). IsOutside v m later upkeep records job) (sym (came ∙ ap (λ (o : Option Meta). published_in published o meta) (out_free v meta lent upkeep records job is).1 ∙ same published)) (outside_lent later none)
     where
       same : (b : Bool) → published_in b None meta ≡ meta
       same true = refl
@@ -67,7 +111,7 @@ module _ {C : Type 0} (v : View C) (meta : Meta) (lent : Option Meta) (upkeep : 
 module _ {L D C : Type 0} (view : EngineView L D C) (run : List Entry) (are : AreOutside view (view.records ++ run)) where
   -- where a job publishes none is
   pub none_beside : (n : ℕ) → view.upkeep.publishing ≡ Some n → NoneOutside view.upkeep
-  none_beside n mine k job has at = let no : None ≡ Some n = sym (are k job has at).free.0 ∙ mine in cc
+  none_beside n mine k job has at = let no : None ≡ Some n = sym (out_free view.tablet view.store.meta view.store.lent view.upkeep (view.records ++ run) job (are k job has at)).0 ∙ mine in cc
 
   -- a pass has something else, and no job publishes
   pub outside_kept : (upkeep : UpkeepsView) (n : ℕ) (u : UpkeepView) → HasUpkeep n u view.upkeep upkeep → upkeep.publishing ≡ None → (upkeep.begun ≡ 0 → view.upkeep.begun ≡ 0)

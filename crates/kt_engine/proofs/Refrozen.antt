@@ -48,7 +48,7 @@ use Rattle.kt_engine.specs.Jobs.{JobView, UpkeepsView, JobOn, HasUpkeep, job_of,
 use Rattle.kt_engine.specs.JobSteps.{TakesBy, TakesInputs, TakesFrozen}
 use Rattle.kt_engine.specs.Logged.{PlanPasses}
 use Rattle.kt_engine.specs.Near.{first_number}
-use Rattle.kt_engine.specs.Outside.{IsOutside, TakesMems, TakesStill, hists_read, is_at_outside, job_again, vacant_of}
+use Rattle.kt_engine.specs.Outside.{MergesOutside, Rewrites, TakesMems, TakesStill, hists_read, is_at_outside, job_again, vacant_of}
 use Rattle.kt_engine.specs.Over.{AreLeft, AreRowsetNames, AreShelved}
 use Rattle.kt_engine.specs.Returning.{HasRefrozen, IsReadOf, hists_in}
 use Rattle.kt_engine.specs.Stored.{IsStored}
@@ -56,6 +56,7 @@ use Rattle.kt_engine.proofs.GoesOut.{hists_join, apart_first, under_first, long_
 use Rattle.kt_engine.proofs.JobBegins.{drop_first, takes_frozen}
 use Rattle.kt_engine.proofs.JobBoth.{refrozen_both}
 use Rattle.kt_engine.proofs.JobOut.{frozen_are_taken}
+use Rattle.kt_engine.proofs.Outsiders.{a_merge}
 use Rattle.kt_engine.proofs.Lists.{some_one}
 use Rattle.kt_engine.proofs.Outside.{takes_mems}
 use Rattle.kt_engine.proofs.Shelved.{next_is}
@@ -179,7 +180,7 @@ pub frozen_inside : {L D C : Type 0} (log_tells : Bool) (log_seen : L → Files)
     → (are : IsEngine log_tells log_seen log_now log_leaves log_faults view × IsStored log_tells log_seen tells seen faults view) → (n : ℕ) (job : JobView) → job_of n view.upkeep ≡ Some job → job.stage ≡ stage.Outside → job.want ≡ want.Flush
     → (inputs : Inputs) → ReadsMemory view.tablet view.tablet.core.c inputs → job.frozen ≤ length inputs.mems
 frozen_inside log_tells log_seen log_now log_leaves log_faults tells seen faults view are n job had at flush inputs reads =
-    let was = are.1.outside n job had at in
+    let was = a_merge view.tablet view.store.meta view.store.lent view.upkeep (view.records ++ are.1.run) job (are.1.outside n job had at) (λ on. subst Rewrites flush on) in
     let its : TakesMems view.tablet.names job = subst (TakesStill view.tablet.names job) flush was.takes in
     let behind = behind_first view.tablet.frozen (2 ^ 64) view.tablet.names are.0.ready.shelved in
     let few = few_taken job.last_mem view.tablet.frozen behind.0 (drop 1 view.tablet.names) behind.1 in
@@ -223,8 +224,8 @@ module _ {L D C : Type 0} (log_tells : Bool) (log_seen : L → Files) (log_now :
   abbrev shelved : AreShelved (suc v.frozen) (2 ^ 64) v.names
   shelved = are.0.ready.shelved
 
-  was : IsOutside v view.store.meta view.store.lent view.upkeep (view.records ++ are.1.run) job
-  was = are.1.outside n job had at
+  was : MergesOutside v view.store.meta view.store.lent view.upkeep (view.records ++ are.1.run) job
+  was = a_merge v view.store.meta view.store.lent view.upkeep (view.records ++ are.1.run) job (are.1.outside n job had at) (λ on. subst Rewrites flush on)
 
   its : TakesMems v.names job
   its = subst (TakesStill v.names job) flush was.takes

@@ -173,12 +173,13 @@ module _ {L D C : Type 0} (log_tells : Bool) (log_seen : L → Files) (log_now :
         rests = inl none;
         jobs = is.jobs;
         outside = λ n job has out.
-            let was = is.outside n job has out in
+            outside_applied old.tablet old.store.meta old.store.lent old.upkeep old.records is.run job (is.outside n job has out) h.j (place_of h.op.key core.stores) h.flight.ts h.op its_change here.name outcome new.core.stores new.notes new.pool
+            h.many changed here.is here.there (λ was.
             let low = low_shelved (suc old.tablet.frozen) (2 ^ 64) job.first_rowset old.tablet.names e.ready.shelved (subst (AreLeft job.first_rowset) (sym (drop_first old.tablet.frozen old.tablet.names)) was.left) in
-            let below = named_low job.first_rowset (numbers_of old) old.tablet.names low is.names_below in
-            outside_applied old.tablet old.store.meta old.store.lent old.upkeep old.records is.run job was h.j (place_of h.op.key core.stores) h.flight.ts h.op its_change here.name outcome new.core.stores new.notes new.pool
-            h.many changed here.is here.there (all_at (IsBelow (before job.first_rowset (first_number old.tablet.names))) old.tablet.names (place_of h.op.key core.stores) here.name here.there below)
-            (all_found (λ (w : Aloft). job.bound < w.ts) (λ w. w.s == s) core.aloft h.flight h.flies was.flies);
+            let below = named_low job.first_rowset (numbers_of old) old.tablet.names low is.names_below in (
+              all_at (IsBelow (before job.first_rowset (first_number old.tablet.names))) old.tablet.names (place_of h.op.key core.stores) here.name here.there below,
+              all_found (λ (w : Aloft). job.bound < w.ts) (λ w. w.s == s) core.aloft h.flight h.flies was.flies,
+            ));
         holds = is.holds;
         files = is.files;
         columns = is.columns;

@@ -1,5 +1,5 @@
 -- A job that goes on outside the lock with what it read, while rows change.
-use Rattle.std.specs.Prelude.{◌≡◌, ◌≢◌, ◌≤◌, ◌<◌, ◌==◌, ℕ, suc, true, false, Bool, List, [], ◌∷◌, ◌++◌, length, drop, Option, Some, None}
+use Rattle.std.specs.Prelude.{◌≡◌, ◌≢◌, ◌≤◌, ◌<◌, ◌⊎◌, ◌==◌, ℕ, suc, true, false, Bool, List, [], ◌∷◌, ◌++◌, length, drop, Option, Some, None}
 use Rattle.std.specs.List.{All, AllByRecursion, list_any}
 use Rattle.kt_history.specs.declared.target.Target.{Target}
 use Rattle.kt_history.specs.History.{Past}
@@ -15,6 +15,7 @@ use Rattle.kt_pick.specs.declared.rules.Want.{Want}
 use Rattle.kt_pick.specs.declared.rules.Want.TheVariants as want
 use Rattle.kt_diskrowset.specs.declared.data.RowSetData.{RowSetData}
 use Rattle.kt_diskrowset.specs.declared.inputs.Inputs.{Inputs}
+use Rattle.kt_diskrowset.specs.Data.{held_in}
 use Rattle.kt_diskrowset.specs.Held.{files_told}
 use Rattle.kt_diskrowset.specs.Rowset.{HeldFiles}
 use Rattle.kt_merge.specs.Merge.{hists_of}
@@ -23,7 +24,7 @@ use Rattle.kt_joblaws.specs.Late.{AllHaveLater}
 use Rattle.kt_super.specs.declared.meta.Meta.{Meta}
 use Rattle.kt_stores.specs.Takes.{mems, rowsets as disks, of_taken, files_taken}
 use Rattle.kt_tablet.specs.Views.{View, Opens}
-use Rattle.kt_tablet.specs.Jobs.{taken_stores}
+use Rattle.kt_tablet.specs.Jobs.{taken_stores, files_of}
 use Rattle.kt_engine.specs.declared.again.MemsNow.{MemsNow}
 use Rattle.kt_engine.specs.declared.upkeep.Stage.{Stage}
 use Rattle.kt_engine.specs.declared.upkeep.Stage.TheVariants as stage
@@ -80,9 +81,9 @@ abbrev pub hists_read : Want → Inputs → List ℕ → List Hist
 hists_read want.Flush inputs q = drop 1 (hists_of q inputs)
 hists_read _ inputs q = hists_of q inputs
 
--- A job that is outside. No superblock is out for publishing, and none was published since it began: what it takes is there, and all disk rowsets have numbers that were given before the job's. The stores that it takes have what was read of them, and behind
+-- A flush or a compaction that is outside. No superblock is out for publishing, and none was published since it began: what it takes is there, and all disk rowsets have numbers that were given before the job's. The stores that it takes have what was read of them, and behind
 -- that changes of their rows above its bound; their files have none. From its mark on all stores are apart, also where that of the tablet has risen. No record of the log, and no row of a flying write, names a rowset that came since.
-pub record IsOutside {C : Type 0} (v : View C) (meta : Meta) (lent : Option Meta) (upkeep : UpkeepsView) (records : List Entry) (job : JobView) : Type 0 where
+pub record MergesOutside {C : Type 0} (v : View C) (meta : Meta) (lent : Option Meta) (upkeep : UpkeepsView) (records : List Entry) (job : JobView) : Type 0 where
   pub inputs : Inputs
   pub read : job.inputs ≡ Some inputs
   pub free : (upkeep.publishing ≡ None) × (lent ≡ None)
@@ -102,6 +103,25 @@ pub record IsOutside {C : Type 0} (v : View C) (meta : Meta) (lent : Option Meta
   pub apart : (first : Past) → Opens v.opening v.mark v.core.opened first → (q : List ℕ) → AreApart job.mark (hists_read job.want inputs q) × AllUnder (suc job.bound) (hists_read job.want inputs q)
   pub whole : (first : Past) → Opens v.opening v.mark v.core.opened first → (q : List ℕ) → AreApart job.mark (hists q v.core.stores)
   pub upto : (first : Past) → Opens v.opening v.mark v.core.opened first → AllByRecursion (AreUpToInFiles job.bound) (files_taken job.taken v.files)
+
+-- a want is on the files of one disk rowset
+abbrev pub Rewrites : Want → Type 0
+Rewrites want.Flush = ⊥
+Rewrites (want.Compact taken) = ⊥
+Rewrites _ = Unit {0}
+
+-- A job on the files of a disk rowset that is outside. No superblock is out for publishing, and its rowset has the files that were read
+pub record RewritesOutside {C : Type 0} (v : View C) (lent : Option Meta) (upkeep : UpkeepsView) (job : JobView) : Type 0 where
+  pub on : Rewrites job.want
+  pub free : (upkeep.publishing ≡ None) × (lent ≡ None)
+  pub begun : upkeep.begun ≢ 0
+  pub was : RowSetData
+  pub read : job.read ≡ Some was
+  pub held : files_of job.rowset v.files ≡ Some (held_in was)
+
+-- a job that is outside
+abbrev pub IsOutside : {C : Type 0} → View C → Meta → Option Meta → UpkeepsView → List Entry → JobView → Type 0
+IsOutside v meta lent upkeep records job = MergesOutside v meta lent upkeep records job ⊎ RewritesOutside v lent upkeep job
 
 -- the job of a pass is back, with all records counted, the MemRowSet that takes inserts now, and what its disk rowsets have, which was handed out
 abbrev pub job_back : ℕ → ℕ → List RowSetData → JobView → JobView

@@ -1,6 +1,7 @@
 -- What a job takes with it outside the lock, and how it comes back.
 use Rattle.std.specs.Prelude.{◌≡◌, ◌≢◌, ◌≤◌, ◌<◌, ◌^◌, ℕ, suc, min, Bool, IsTrue, List, [], ◌∷◌, ◌++◌, length, map, Some, None}
 use Rattle.std.specs.List.{AllByRecursion}
+use Rattle.kt_disk.specs.Disk.{Files}
 use Rattle.kt_history.specs.declared.changes.KeyChange.{KeyChange}
 use Rattle.kt_history.specs.History.{Past}
 use Rattle.kt_history.specs.Stores.{Hist, never}
@@ -10,7 +11,7 @@ use Rattle.kt_rowfiles.specs.Merging.{joined_history}
 use Rattle.kt_content.specs.Rules.{Rules, HistPasses}
 use Rattle.kt_diskrowset.specs.declared.data.RowSetData.{RowSetData}
 use Rattle.kt_diskrowset.specs.declared.inputs.Inputs.{Inputs}
-use Rattle.kt_diskrowset.specs.Data.{store_in}
+use Rattle.kt_diskrowset.specs.Data.{held_in, store_in}
 use Rattle.kt_merge.specs.Late.{HasNoneAbove}
 use Rattle.kt_merge.specs.Changes.{hist_in_changes}
 use Rattle.kt_merge.specs.Merge.{hists_of, hists_upto, rows_and_changes, AreReadable, AreFaultless}
@@ -21,14 +22,18 @@ use Rattle.kt_pick.specs.declared.rules.Want.TheVariants as want
 use Rattle.kt_schema.specs.Columns.{other_columns}
 use Rattle.kt_stores.specs.Takes.{mems, rowsets as disks}
 use Rattle.kt_tablet.specs.Views.{View}
-use Rattle.kt_tablet.specs.Jobs.{taken_stores, HasFrozen}
+use Rattle.kt_tablet.specs.Jobs.{taken_stores, files_of, HasFrozen}
 use Rattle.kt_engine.specs.declared.again.MemsNow.{MemsNow}
 use Rattle.kt_engine.specs.declared.job.JobInput.{JobInput}
 use Rattle.kt_engine.specs.declared.job.Returned.{Returned}
 use Rattle.kt_engine.specs.declared.job.Returned.TheVariants as returned
+use Rattle.kt_engine.specs.declared.upkeep.Stage.TheVariants as stage
 use Rattle.kt_engine.specs.Columns.{shape_of}
+use Rattle.kt_engine.specs.DeltaJobs.{IsRead}
 use Rattle.kt_engine.specs.Engines.{EngineView, IsFound, IsContent}
+use Rattle.kt_engine.specs.Files.{IsFiled}
 use Rattle.kt_engine.specs.Jobs.{JobView, HasUpkeep, upkeep_at}
+use Rattle.kt_engine.specs.JobCalls.{ByWant}
 use Rattle.kt_engine.specs.JobSteps.{Reads, TakesInputs, AtNewStage}
 use Rattle.kt_engine.specs.Logged.{PlanPasses}
 use Rattle.kt_engine.specs.Near.{first_number}
@@ -97,8 +102,34 @@ pub record HasRefrozen {L D C : Type 0} (tells : Bool) (n : ℕ) (job : JobView)
   pub passes : IsTrue tells → (rules : Rules) (first : Past) → IsContent rules new first → PlanPasses rules new.tablet.core.work
       → (q : List ℕ) → HistPasses rules q (joined_history job.mark (hists_in q m.now)) × HistPasses rules q (joined_history m.since.mark (hists_upto m.since.bound q m.since.inputs))
 
+-- the rowset of a job on its files has those that were handed out
+pub record LeavesOne {C : Type 0} (v : View C) (job : JobView) : Type 0 where
+  pub was : RowSetData
+  pub read : job.read ≡ Some was
+  pub held : files_of job.rowset v.files ≡ Some (held_in was)
+
+-- what a job takes with it, by its want
+abbrev pub MayLeave : {L D C : Type 0} → EngineView L D C → JobView → Type 0
+MayLeave v job = ByWant job.want (TakesInputs v job × LeavesAs v.tablet job) (λ rowset. LeavesOne v.tablet job)
+
+-- A job on the files of a disk rowset goes on in this visit: this is all that its rowset has now, in the same files, and counts as what was handed out. They are those that the published superblock names, or what can be read of them
+pub record HasReread {L D C : Type 0} (tells : Bool) (seen : D → Files) (n : ℕ) (job : JobView) (d : RowSetData) (old new : EngineView L D C) : Type 0 where
+  pub dms : ℕ
+  pub is : IsRead old.tablet job.rowset dms d
+  pub held : files_of d.number old.tablet.files ≡ Some (held_in d)
+  pub filed : IsFiled tells (seen old.store.known) old.store.meta.rowsets d.number (held_in d)
+  pub was : RowSetData
+  pub read : job.read ≡ Some was
+  pub same : held_in d ≡ held_in was
+  pub at : AtNewStage n (record job { stage = stage.Read; dms = dms; read = Some d }) old new
+  pub free : new.upkeep.publishing ≡ None
+  pub begun : new.upkeep.begun ≢ 0
+
 -- what is handed out as a job comes back, by its want
-abbrev pub ReturnsBy : {L D C : Type 0} → Want → Bool → ℕ → JobView → Returned → EngineView L D C → EngineView L D C → Type 0
-ReturnsBy want.Flush tells n job (returned.Mems m) old new = HasRefrozen tells n job m old new
-ReturnsBy (want.Compact taken) tells n job (returned.Rowsets list) old new = HasReturned tells n job list old new
-ReturnsBy _ tells n job _ old new = ⊥
+abbrev pub ReturnsBy : {L D C : Type 0} → Want → Bool → (D → Files) → ℕ → JobView → Returned → EngineView L D C → EngineView L D C → Type 0
+ReturnsBy want.Flush tells seen n job (returned.Mems m) old new = HasRefrozen tells n job m old new
+ReturnsBy (want.Compact taken) tells seen n job (returned.Rowsets list) old new = HasReturned tells n job list old new
+ReturnsBy (want.FlushDeltas r) tells seen n job (returned.Rowset d) old new = HasReread tells seen n job d old new
+ReturnsBy (want.Minor r) tells seen n job (returned.Rowset d) old new = HasReread tells seen n job d old new
+ReturnsBy (want.Major r) tells seen n job (returned.Rowset d) old new = HasReread tells seen n job d old new
+ReturnsBy _ tells seen n job _ old new = ⊥

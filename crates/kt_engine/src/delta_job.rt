@@ -176,7 +176,11 @@ impl<L: Disk, D: Disk + Drop, C: Clock> Engine<L, D, C> {
     }
 
     // What a job reads, and the number of the DeltaMemStore that takes changes.
-    fn read_deltas(&self, alloc: Global, number: u32) -> Result<(RowSetData, u64), NoMemory>
+    pub(crate) fn read_deltas(
+        &self,
+        alloc: Global,
+        number: u32,
+    ) -> Result<(RowSetData, u64), NoMemory>
         ensures read { IfOk result (λ read. (job : JobView) → job_of number self.now.upkeep ≡ Some job → IsRead self.now.tablet job.rowset read.1 read.0) }
         ensures held { IfOk result (λ read. files_of read.0.number self.now.tablet.files ≡ Some (held_in read.0)) }
     {

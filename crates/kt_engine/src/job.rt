@@ -32,7 +32,7 @@ use crate::upkeep::{Job, Stage, copy_ids, copy_want};
 use kt_base::{Clock, NoMemory};
 use kt_baseset::{ColumnShape, Schema1};
 use kt_disk::Disk;
-use kt_diskrowset::{ChangeLists, DiskRowSet, Inputs, Missed, Outputs, RowSetList};
+use kt_diskrowset::{ChangeLists, DiskRowSet, Inputs, Missed, Outputs, RowSetData, RowSetList};
 use kt_history::ChangeList;
 use kt_outputs::MissedFiles;
 use kt_pick::Want;
@@ -121,6 +121,8 @@ pub enum Returned {
     Rowsets(RowSetList),
     /// What the MemRowSets of a flush have.
     Mems(MemsNow),
+    /// All that the disk rowset has whose files the job writes again.
+    Rowset(RowSetData),
 }
 
 /// So many jobs begin in one opening at most. A flush that comes back from outside the lock counts as one more.
