@@ -16,7 +16,7 @@ use Rattle.kt_tablet.specs.Visits.{MayAnswerChore}
 use Rattle.kt_seatlock.specs.Trails.{Follows}
 use Rattle.kt_engine.specs.Calls.{HasNoDevice, HasDone, StandsStill, SeesOthers, IsThrough}
 use Rattle.kt_engine.specs.Engines.{EngineView}
-use Rattle.kt_engine.specs.Jobs.{UpkeepView, UpkeepsView, upkeep_at}
+use Rattle.kt_engine.specs.Jobs.{UpkeepView, upkeep_at}
 use Rattle.kt_engine.specs.Visits.{PartView, part_in, session_of, root_of}
 use Rattle.kt_serve.specs.Maintained.{HasDoneWith, KeepsUpkeep}
 use Rattle.kt_serve.specs.Answered.{IsOpen, IsAnswered}
@@ -84,24 +84,15 @@ module _ {L D C : Type 0} where
 
   -- ---- and then its answer
 
-  -- a visit that leaves what the engine has of maintenance
-  pub keeps_upkeep : (told told' : Option (PartView L D C)) (x y : EngineView L D C) (n n' : ℕ) → told ≡ Some (part_in x n) → told' ≡ Some (part_in y n') → n' ≡ n → y.upkeep ≡ x.upkeep → KeepsUpkeep told told'
-  keeps_upkeep told told' x y n n' was is same e = record {
-    was = part_in x n;
-    was_is = was;
-    part = part_in y n';
-    is = is;
-    same = ap (λ k. upkeep_at k y.upkeep.passes) same ∙ ap (λ (u : UpkeepsView). upkeep_at n u.passes) e;
-  }
-
   done_still : (chore : Chore) (a b c : Option (PartView L D C)) → HasDone chore a b → KeepsUpkeep b c → HasDone chore a c
-  done_still chore a b c h k =
-      let same : k.part.pass.upkeep ≡ h.part.pass.upkeep = k.same ∙ ap (λ (p : PartView L D C). p.pass.upkeep) (some_is k.was h.part (sym k.was_is ∙ h.is)) in
+  done_still chore a b c h keeps =
+      let q = keeps h.part h.is in
+      let same : q.0.pass.upkeep ≡ h.part.pass.upkeep = q.2 in
       record {
         was = h.was;
         was_is = h.was_is;
-        part = k.part;
-        is = k.is;
+        part = q.0;
+        is = q.1;
         rounds = ap (λ (u : UpkeepView). u.rounds) same ∙ h.rounds;
         through = record { round = ap (λ (u : UpkeepView). u.round) same ∙ h.through.round; todo = ap (λ (u : UpkeepView). u.todo) same ∙ h.through.todo };
       }

@@ -19,12 +19,13 @@ use Rattle.kt_seatlock.specs.Passes.{number, seen, part, joined, given, MayEnter
 use Rattle.kt_seatlock.specs.declared.shared.Shared.{Ghosts}
 use Rattle.kt_seatlock.specs.declared.lock.SeatLock.{SeatLock}
 use Rattle.kt_engine.specs.Engines.{EngineView}
+use Rattle.kt_engine.specs.Jobs.{UpkeepsView, upkeep_at}
 use Rattle.kt_engine.specs.Visits.{Root, root_of, PartView, part_in, session_of, out_of, lent_of}
 use Rattle.kt_serve.specs.declared.session.SessionEnd.{SessionEnd}
-use Rattle.kt_serve.specs.Maintained.{StoreRests}
+use Rattle.kt_serve.specs.Maintained.{KeepsUpkeep, StoreRests, chores_in}
 use Rattle.kt_serve.specs.Sessions.{Found, TellsOwn, CanRun, IsFresh, IsQuiet, IsStill, HasNoLog, MayRun, told_by, has_stop}
 use Rattle.kt_serve.specs.declared.places.Place.{Place}
-use Rattle.kt_serve.specs.Runs.{HasEnded, HasRunTo, PlaceHasRun, AllEnded, reply_of_end}
+use Rattle.kt_serve.specs.Runs.{HasEnded, HasRunTo, PlaceHasRun, AllEnded, HaveBegunRounds, reply_of_end}
 use Rattle.kt_serve.specs.declared.close.End.{End}
 use Rattle.kt_serve.specs.declared.close.End.TheVariants as how
 use Rattle.kt_serve.specs.declared.log.Halt.TheVariants as halt
@@ -32,6 +33,7 @@ use Rattle.kt_serve.specs.Closing.{MayHalt, EndsAs}
 use Rattle.kt_serve.proofs.Lines.{follows_quiet, quiet_self, quiet_line}
 use Rattle.kt_serve.proofs.Begins.{root_at, has_root}
 use Rattle.kt_serve.proofs.Stills.{still_root}
+use Rattle.kt_serve.proofs.Rests.{upkeep_has}
 use Rattle.kt_serve.proofs.Tells.{tells_quiet}
 use Rattle.kt_serve.proofs.Asked.{told_asked}
 use Rattle.kt_serve.proofs.Lists.{some_is, at_place, get_take}
@@ -92,9 +94,10 @@ module _ {L D C : Type 0} where
 
   -- the last visit of a session leaves what it ended with
   pub left_run : (Came : ℕ → ℕ → Reply → Type 0) (a b c : Option (PartView L D C)) (s t : ℕ) (commands : List Command) (xs ys : List Event) (end : SessionEnd) → t ≡ s → HasRunTo Came a b s commands xs end → IsStill t b c xs ys
-      → (HasNoLog b → HasNoLog c) → (has_stop xs ≡ true → has_stop ys ≡ true) → HasRunTo Came a c s commands ys end
-  left_run Came a b c s t commands xs ys end same run still log stops = record {
+      → (HasNoLog b → HasNoLog c) → (has_stop xs ≡ true → has_stop ys ≡ true) → KeepsUpkeep b c → HasRunTo Came a c s commands ys end
+  left_run Came a b c s t commands xs ys end same run still log stops keeps = record {
     home = log run.home;
+    rounds = λ whole. upkeep_has b c (chores_in commands) keeps (run.rounds whole);
     root = λ root h. still_root root t b c xs ys still (run.root root h);
     ended = λ root h. ended_on Came root s commands xs ys end (run.ended root h) (subst (λ k. IsQuiet root k xs ys) same (still.quiet root (run.root root h))) stops;
   }
@@ -130,6 +133,12 @@ module _ {L D C : Type 0} where
 -- ---- all sessions
 
 module _ {L D C : Type 0} {g : Ghosts (EngineView L D C) Event (PartView L D C)} where
+  -- what a session ended with is what its place has
+  end_at : (new : List (Place (EngineView L D C) Event (PartView L D C) g)) (ends : List SessionEnd) (n j : ℕ) (q : Place (EngineView L D C) Event (PartView L D C) g) → ends ≡ take n (map (λ p. p.end) new) → j < n → slice_get new j ≡ Some q → slice_get ends j ≡ Some q.end
+  end_at new ends n j q the_ends below at =
+      ap (λ l. slice_get l j) the_ends ∙ get_take n (map (λ (r : Place (EngineView L D C) Event (PartView L D C) g). r.end) new) j below ∙ slice_get-map (λ (r : Place (EngineView L D C) Event (PartView L D C) g). r.end) new j
+      ∙ ap (option_map (λ (r : Place (EngineView L D C) Event (PartView L D C) g). r.end)) at
+
   -- each session of the plan ended as it did in its place, and the trail goes on from what its pass had seen by lines of others
   pub each_ended : (Came : ℕ → ℕ → Reply → Type 0) (x : EngineView L D C) (trail : List Event) (plan : List (List Command)) (old new : List (Place (EngineView L D C) Event (PartView L D C) g)) (ends : List SessionEnd) (n : ℕ)
       → length plan ≤ length old → n ≡ length plan → ends ≡ take n (map (λ p. p.end) new)
@@ -146,9 +155,29 @@ module _ {L D C : Type 0} {g : Ghosts (EngineView L D C) Event (PartView L D C)}
       let has = q.2 in
       let was = begun j p.0 p.1 in (
         q.0.end,
-        ap (λ l. slice_get l j) the_ends ∙ get_take n (map (λ (r : Place (EngineView L D C) Event (PartView L D C) g). r.end) new) j (omega (arith, within, is)) ∙ slice_get-map (λ (r : Place (EngineView L D C) Event (PartView L D C) g). r.end) new j ∙ ap (option_map (λ (r : Place (EngineView L D C) Event (PartView L D C) g). r.end)) q.1,
+        end_at new ends n j q.0 the_ends (omega (arith, within, is)) q.1,
         ended_in Came (part p.0.pass) (part q.0.pass) x (number p.0.pass) (number q.0.pass) (suc j) commands (seen q.0.pass) trail q.0.end was.0 was.1 has.back.0.1 (has.run commands e) (follows j q.0 q.1),
       )
+
+  -- and has begun a round for each chore, as far as the engine tells that is left
+  pub each_rounds : (Came : ℕ → ℕ → Reply → Type 0) (y z : EngineView L D C) (plan : List (List Command)) (old new : List (Place (EngineView L D C) Event (PartView L D C) g)) (ends : List SessionEnd) (n : ℕ)
+      → length plan ≤ length old → n ≡ length plan → ends ≡ take n (map (λ p. p.end) new)
+      → ((j : ℕ) (p : Place (EngineView L D C) Event (PartView L D C) g) → slice_get old j ≡ Some p → number p.pass ≡ suc j)
+      → ((j : ℕ) (p : Place (EngineView L D C) Event (PartView L D C) g) → slice_get old j ≡ Some p → (q : Place (EngineView L D C) Event (PartView L D C) g) × (slice_get new j ≡ Some q) × PlaceHasRun Came plan j p q)
+      → ((j : ℕ) (q : Place (EngineView L D C) Event (PartView L D C) g) → slice_get new j ≡ Some q → part q.pass ≡ Some (part_in y (number q.pass)))
+      → z.upkeep ≡ y.upkeep → HaveBegunRounds plan ends z
+  each_rounds Came y z plan old new ends n count is the_ends begun run kept same zero commands end e at whole = absurd (cc)
+  each_rounds Came y z plan old new ends n count is the_ends begun run kept same (suc j) commands end e at whole =
+      let within = slice_get_within plan j commands e in
+      let p = at_place old j (omega (arith, within, count)) in
+      let q = run j p.0 p.1 in
+      let mine = end_at new ends n j q.0 the_ends (omega (arith, within, is)) q.1 in
+      let its : q.0.end ≡ end = some_is q.0.end end (sym mine ∙ at) in
+      let has = (q.2.run commands e).rounds (ap (λ (x : SessionEnd). x.halt) its ∙ whole) in
+      let me : number q.0.pass ≡ suc j = q.2.back.0.1 ∙ begun j p.0 p.1 in
+      let here : has.part ≡ part_in y (number q.0.pass) = some_is has.part (part_in y (number q.0.pass)) (sym has.is ∙ kept j q.0 q.1) in
+      let low : chores_in commands ≤ (upkeep_at (number q.0.pass) y.upkeep.passes).rounds = subst (λ (v : PartView L D C). chores_in commands ≤ v.pass.upkeep.rounds) here has.rounds in
+      subst (λ (u : UpkeepsView). chores_in commands ≤ (upkeep_at (suc j) u.passes).rounds) (sym same) (subst (λ k. chores_in commands ≤ (upkeep_at k y.upkeep.passes).rounds) me low)
 
   -- a pass that has run may be taken in, as it might have been before
   pub back_each : (Came : ℕ → ℕ → Reply → Type 0) (lock : SeatLock (EngineView L D C) Event (PartView L D C)) (plan : List (List Command)) (old new : List (Place (EngineView L D C) Event (PartView L D C) g)) → length new ≡ length old

@@ -186,5 +186,12 @@ module _ {L D C : Type 0} where
     quiet = λ root h. quiet_then root s xs ys zs (f.quiet root h) (subst (λ k. IsQuiet root k ys zs) e (g.quiet root (f.root root h)));
   }
 
+  -- nothing but lines of others has come
+  pub going_others : (s : ℕ) (a b : Option (PartView L D C)) (xs ys : List Event) → b ≡ a → Follows session_of s xs ys → IsGoing s a b xs ys
+  going_others s a b xs ys e follows = record {
+    root = λ root h. subst (λ (q : Option (PartView L D C)). HasRoot root q) (sym e) h;
+    quiet = λ root h. follows_quiet root s xs ys follows;
+  }
+
   pub going_self : (s : ℕ) (a : Option (PartView L D C)) (xs : List Event) → IsGoing s a a xs xs
   going_self s a xs = record { root = λ root h. h; quiet = λ root h first found k. refl }

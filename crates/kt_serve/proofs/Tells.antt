@@ -73,6 +73,10 @@ module _ {L D C : Type 0} where
   pub tells_after : (s t : ℕ) (rs : List Reply) (xs : List Event) (p : PartView L D C) (a b : Option (PartView L D C)) → a ≡ Some p → t ≡ s → SameRoot a b → OnRoot a (λ root. TellsOwn root s rs xs) → OnRoot b (λ root. TellsOwn root t rs xs)
   tells_after s t rs xs p a b is e same h = subst (λ k. OnRoot b (λ (root : Root L D C). TellsOwn root k rs xs)) (sym e) (on_root (λ root. TellsOwn root s rs xs) p a b is same h)
 
+  -- and so is what it is to run
+  pub plan_after : (s t : ℕ) (commands : List Command) (p : PartView L D C) (a b : Option (PartView L D C)) → a ≡ Some p → t ≡ s → SameRoot a b → OnRoot a (λ (root : Root L D C). nth root.work.plan s ≡ Some commands) → OnRoot b (λ (root : Root L D C). nth root.work.plan t ≡ Some commands)
+  plan_after s t commands p a b is e same h = subst (λ k. OnRoot b (λ (root : Root L D C). nth root.work.plan k ≡ Some commands)) (sym e) (on_root (λ (root : Root L D C). nth root.work.plan s ≡ Some commands) p a b is same h)
+
   pub tells_before : (s t : ℕ) (rs : List Reply) (xs : List Event) (a b : Option (PartView L D C)) → t ≡ s → SameRoot a b → OnRoot b (λ root. TellsOwn root t rs xs) → OnRoot a (λ root. TellsOwn root s rs xs)
   tells_before s t rs xs a b e same h root old = subst (λ k. TellsOwn root k rs xs) e (h root (same root old))
 
@@ -97,3 +101,8 @@ tells_of s rs new xs a e h root old = subst (λ l. TellsOwn root s l xs) (sym e)
 -- what stands with one reply more
 pub pushed_tells : {L D C : Type 0} (s : ℕ) (rs mid new : List Reply) (r : Reply) (ys : List Event) (a : Option (PartView L D C)) → mid ≡ rs → new ≡ mid ++ r ∷ [] → OnRoot a (λ (root : Root L D C). TellsOwn root s (rs ++ r ∷ []) ys) → OnRoot a (λ root. TellsOwn root s new ys)
 pushed_tells s rs mid new r ys a e f h root old = subst (λ l. TellsOwn root s l ys) (sym (f ∙ ap (λ l. l ++ r ∷ []) e)) (h root old)
+
+-- no reply has none
+pub none_in : {A : Type 0} (k : ℕ) (x : A) → nth {A = A} [] k ≡ Some x → ⊥
+none_in zero x e = cc
+none_in (suc k) x e = cc

@@ -1,11 +1,11 @@
 //! Maintenance, as a session asks for it, and in the background.
-ghost use Rattle.std.specs.Prelude.{◌≡◌, ◌≢◌, ◌<◌, ◌+◌, ◌^◌, ℕ, List, Ok, Err, IfOk, OnOk, OnErr, true};
+ghost use Rattle.std.specs.Prelude.{◌≡◌, ◌≢◌, ◌⊎◌, ◌<◌, ◌+◌, ◌^◌, ℕ, List, Ok, Err, IfOk, OnOk, OnErr, true};
 ghost use Rattle.kt_history.specs.declared.change.Outcome.{Outcome};
 ghost use Rattle.kt_history.specs.declared.command.Command.{Command};
 ghost use Rattle.kt_seatlock.specs.Passes.{number, seen, part, MayEnter, IsBack};
 ghost use Rattle.kt_engine.specs.Calls.{HasNoDevice, HasDone, StandsStill, SeesOthers};
 ghost use Rattle.kt_serve.specs.Answered.{IsOpen};
-ghost use Rattle.kt_serve.specs.Maintained.{HasDoneWith, KeepsUpkeep, StoreRests};
+ghost use Rattle.kt_serve.specs.Maintained.{HasDoneWith, HasNoJob, KeepsUpkeep, StoreRests};
 ghost use Rattle.kt_serve.specs.Sessions.{IsFree, IsCommand, SameRoot, OnRoot, AfterCommand, IsGoing, HasNoLog, has_stop};
 
 use kt_base::{Chore, Clock, NoMemory};
@@ -18,7 +18,10 @@ use std::sync::Wait;
 
 /// What does maintenance for a session.
 pub trait Chores<L: Disk, D: Disk + Drop, C: Clock> {
-    /// Does all that a chore asks for, as the stores stand when it begins. It shows nothing of it to a session.
+    /// So many cells of the pool may be in use as a session begins. Where more are, it makes room first.
+    fn most_cells(&self) -> u32;
+
+    /// Does all that a chore asks for, as the stores stand when it begins. It shows nothing of it to a session, and leaves no job to the pass unless the tablet has stopped.
     fn run<R: Wait>(
         &self,
         rt: &R,
@@ -34,6 +37,7 @@ pub trait Chores<L: Disk, D: Disk + Drop, C: Clock> {
         ensures quiet { SeesOthers (number pass.old) (seen pass.old) (seen pass.new) }
         ensures home { HasNoDevice (part pass.new) }
         ensures done { OnOk result (HasDone chore (part pass.old) (part pass.new)) }
+        ensures none { result ≢ Err MaintNo.Stopped → HasNoJob (part pass.old) → HasNoJob (part pass.new) }
         ensures stopped { result ≡ Err MaintNo.Stopped → has_stop (seen pass.new) ≡ true };
 
     /// Runs jobs in the background until no session runs any more. It shows nothing of them to a session.
@@ -49,7 +53,8 @@ pub trait Chores<L: Disk, D: Disk + Drop, C: Clock> {
         ensures pass { IsBack pass.old pass.new }
         ensures still { StandsStill (part pass.old) (part pass.new) }
         ensures quiet { SeesOthers (number pass.old) (seen pass.old) (seen pass.new) }
-        ensures home { HasNoDevice (part pass.new) };
+        ensures home { HasNoDevice (part pass.new) }
+        ensures none { HasNoJob (part pass.old) → HasNoJob (part pass.new) ⊎ (has_stop (seen pass.new) ≡ true) };
 }
 
 // One visit that answers the command, whose chore is done.
@@ -66,7 +71,6 @@ fn answer_once<L: Disk, D: Disk + Drop, C: Clock, R: Wait>(
     requires few { index + 1 < 2 ^ 32 }
     requires done { HasDoneWith chore (part pass.old) }
     ensures pass { IsBack pass.old pass.new }
-    ensures rests { StoreRests (part pass.old) → StoreRests (part pass.new) }
     ensures upkeep { KeepsUpkeep (part pass.old) (part pass.new) }
     ensures home { HasNoLog (part pass.new) }
     ensures root { SameRoot (part pass.old) (part pass.new) }
@@ -105,6 +109,7 @@ pub fn run_chore<L: Disk, D: Disk + Drop, C: Clock, R: Wait, H: Chores<L, D, C>>
     ensures pass { IsBack pass.old pass.new }
     ensures rests { StoreRests (part pass.new) }
     ensures done { IfOk result (λ reply. reply ≢ Reply.Stopped → HasDone chore (part pass.old) (part pass.new)) }
+    ensures none { result ≢ Ok Reply.Stopped → HasNoJob (part pass.old) → HasNoJob (part pass.new) }
     ensures home { HasNoLog (part pass.new) }
     ensures root { SameRoot (part pass.old) (part pass.new) }
     ensures open { IfOk result (λ reply. reply ≢ Reply.Stopped → OnRoot (part pass.old) (λ root. IsOpen root (number pass.old) index (seen pass.old))) }

@@ -51,6 +51,7 @@ fn append_last<L: Disk, D: Disk + Drop, C: Clock>(
     ensures home { engine.new.log.holder ≡ None }
     ensures store { engine.new.store ≡ engine.old.store }
     ensures tablet { MayHalt engine.old engine.new }
+    ensures upkeep { engine.new.upkeep ≡ engine.old.upkeep }
     ensures ends { AppendsAs engine.new result }
 {
     match batch.journal.append_batch(alloc, &batch.records) {
@@ -80,6 +81,7 @@ fn append_all<L: Disk, D: Disk + Drop, C: Clock>(
     ensures home { engine.new.log.holder ≡ None }
     ensures store { engine.new.store ≡ engine.old.store }
     ensures tablet { MayHalt engine.old engine.new }
+    ensures upkeep { engine.new.upkeep ≡ engine.old.upkeep }
     ensures ends { AppendsAs engine.new result }
 {
     engine.standing();
@@ -115,6 +117,7 @@ fn publish_lent<L: Disk, D: Disk + Drop, C: Clock>(
     ensures home { engine.new.log.holder ≡ None }
     ensures store_home { engine.new.store.holder ≡ None }
     ensures tablet { MayHalt engine.old engine.new }
+    ensures upkeep { engine.new.upkeep ≡ engine.old.upkeep }
     ensures ends { EndsAs engine.new result }
 {
     // The known device publishes the superblock from before.
@@ -164,6 +167,7 @@ fn publish_last<L: Disk, D: Disk + Drop, C: Clock>(
     ensures home { engine.new.log.holder ≡ None }
     ensures store_home { engine.new.store.holder ≡ None }
     ensures tablet { MayHalt engine.old engine.new }
+    ensures upkeep { engine.new.upkeep ≡ engine.old.upkeep }
     ensures ends { EndsAs engine.new result }
 {
     if engine.has_job(number) {
@@ -189,6 +193,7 @@ pub(crate) fn finish<L: Disk, D: Disk + Drop, C: Clock>(
     ensures home { engine.new.log.holder ≡ None }
     ensures store_home { engine.new.store.holder ≡ None }
     ensures tablet { MayHalt engine.old engine.new }
+    ensures upkeep { engine.new.upkeep ≡ engine.old.upkeep }
     ensures ends { EndsAs engine.new result }
 {
     match append_all(alloc, engine, number) {

@@ -3,7 +3,7 @@ ghost use Rattle.std.specs.Prelude.{◌≡◌, [], true, IsTrue};
 ghost use Rattle.kt_journal.specs.Log.{CanOpen};
 ghost use Rattle.kt_seatlock.specs.Passes.{number, seen, part, MayEnter, IsBack};
 ghost use Rattle.kt_serve.specs.Homes.{IsAppended, IsBroken, Returns};
-ghost use Rattle.kt_serve.specs.Maintained.{StoreRests};
+ghost use Rattle.kt_serve.specs.Maintained.{KeepsUpkeep};
 ghost use Rattle.kt_serve.specs.Sessions.{HasNoLog, HasLog, IsStill, has_stop};
 
 use kt_base::Clock;
@@ -33,7 +33,7 @@ pub fn take_home<L: Disk, D: Disk + Drop, C: Clock, R: Wait>(
     requires enters { MayEnter lock.now pass.old }
     requires appended { Returns (IsAppended L.tells L.seen L.now L.leaves L.faults) (part pass.old) batch.journal }
     ensures pass { IsBack pass.old pass.new }
-    ensures rests { StoreRests (part pass.old) → StoreRests (part pass.new) }
+    ensures upkeep { KeepsUpkeep (part pass.old) (part pass.new) }
     ensures still { IsStill (number pass.old) (part pass.old) (part pass.new) (seen pass.old) (seen pass.new) }
     ensures home { HasNoLog (part pass.new) }
 {
@@ -55,7 +55,7 @@ pub fn take_back<L: Disk, D: Disk + Drop, C: Clock, R: Wait>(
     requires lent { HasLog (part pass.old) batch.journal batch.records }
     requires opens { IsTrue L.tells → CanOpen L.now L.leaves batch.journal.disk }
     ensures pass { IsBack pass.old pass.new }
-    ensures rests { StoreRests (part pass.old) → StoreRests (part pass.new) }
+    ensures upkeep { KeepsUpkeep (part pass.old) (part pass.new) }
     ensures still { IsStill (number pass.old) (part pass.old) (part pass.new) (seen pass.old) (seen pass.new) }
     ensures home { HasNoLog (part pass.new) }
 {
@@ -75,7 +75,7 @@ pub fn take_broken<L: Disk, D: Disk + Drop, C: Clock, R: Wait>(
     requires enters { MayEnter lock.now pass.old }
     requires broken { Returns (IsBroken L.tells L.seen L.now L.leaves L.faults) (part pass.old) batch.journal }
     ensures pass { IsBack pass.old pass.new }
-    ensures rests { StoreRests (part pass.old) → StoreRests (part pass.new) }
+    ensures upkeep { KeepsUpkeep (part pass.old) (part pass.new) }
     ensures still { IsStill (number pass.old) (part pass.old) (part pass.new) (seen pass.old) (seen pass.new) }
     ensures home { HasNoLog (part pass.new) }
     ensures stopped { has_stop (seen pass.new) ≡ true }

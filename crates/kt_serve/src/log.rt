@@ -4,7 +4,7 @@ ghost use Rattle.kt_history.specs.declared.operation.RowOp.{RowOp};
 ghost use Rattle.kt_seatlock.specs.Passes.{number, seen, part, MayEnter, IsBack};
 ghost use Rattle.kt_engine.specs.Engines.{IsLent};
 ghost use Rattle.kt_engine.specs.Visits.{IsVisit};
-ghost use Rattle.kt_serve.specs.Maintained.{StoreRests};
+ghost use Rattle.kt_serve.specs.Maintained.{KeepsUpkeep};
 ghost use Rattle.kt_serve.specs.Sessions.{Flies, LentBy, IsAloft, HasNoLog, HasLog, IsStill, AfterTurn, changes, has_stop};
 
 use crate::home::{take_back, take_broken, take_home};
@@ -58,6 +58,7 @@ fn lend<L: Disk, D: Disk + Drop, C: Clock>(
     ensures visit { IsVisit by engine.old engine.new }
     ensures tablet { engine.new.tablet ≡ engine.old.tablet }
     ensures store { engine.new.store ≡ engine.old.store }
+    ensures upkeep { engine.new.upkeep ≡ engine.old.upkeep }
     ensures turn { LentBy (IsLent L.tells L.seen L.now L.leaves) engine.old engine.new by result }
 {
     engine.standing();
@@ -87,7 +88,7 @@ fn ask_log<L: Disk, D: Disk + Drop, C: Clock, R: Wait>(
     requires aloft { (i ts n : ℕ) × (ops : List RowOp) × IsAloft (part pass.old) (number pass.old) i ts ops n }
     requires home { HasNoLog (part pass.old) }
     ensures pass { IsBack pass.old pass.new }
-    ensures rests { StoreRests (part pass.old) → StoreRests (part pass.new) }
+    ensures upkeep { KeepsUpkeep (part pass.old) (part pass.new) }
     ensures still { IsStill (number pass.old) (part pass.old) (part pass.new) (seen pass.old) (seen pass.new) }
     ensures turn { AfterTurn (IsLent L.tells L.seen L.now L.leaves) (part pass.new) (seen pass.new) result }
 {
@@ -111,7 +112,7 @@ fn bring_home<L: Disk, D: Disk + Drop, C: Clock, R: Wait>(
     requires lent { HasLog (part pass.old) batch.journal batch.records }
     requires ready { IsLent L.tells L.seen L.now L.leaves batch.journal batch.records }
     ensures pass { IsBack pass.old pass.new }
-    ensures rests { StoreRests (part pass.old) → StoreRests (part pass.new) }
+    ensures upkeep { KeepsUpkeep (part pass.old) (part pass.new) }
     ensures still { IsStill (number pass.old) (part pass.old) (part pass.new) (seen pass.old) (seen pass.new) }
     ensures home { HasNoLog (part pass.new) }
     ensures stopped { result ≡ Err Halt.Stopped → has_stop (seen pass.new) ≡ true }
@@ -144,7 +145,7 @@ pub fn make_durable<L: Disk, D: Disk + Drop, C: Clock, R: Wait>(
     requires aloft { (i ts n : ℕ) × (ops : List RowOp) × IsAloft (part pass.old) (number pass.old) i ts ops n }
     requires home { HasNoLog (part pass.old) }
     ensures pass { IsBack pass.old pass.new }
-    ensures rests { StoreRests (part pass.old) → StoreRests (part pass.new) }
+    ensures upkeep { KeepsUpkeep (part pass.old) (part pass.new) }
     ensures still { IsStill (number pass.old) (part pass.old) (part pass.new) (seen pass.old) (seen pass.new) }
     ensures home { HasNoLog (part pass.new) }
     ensures stopped { result ≡ Err Halt.Stopped → has_stop (seen pass.new) ≡ true }

@@ -4,7 +4,7 @@ ghost use Rattle.kt_history.specs.declared.operation.RowOp.{RowOp};
 ghost use Rattle.kt_seatlock.specs.Passes.{number, seen, part, MayEnter, IsBack};
 ghost use Rattle.kt_tablet.specs.Views.{place_at};
 ghost use Rattle.kt_engine.specs.Visits.{IsVisit};
-ghost use Rattle.kt_serve.specs.Maintained.{StoreRests};
+ghost use Rattle.kt_serve.specs.Maintained.{KeepsUpkeep};
 ghost use Rattle.kt_serve.specs.Sessions.{HasNoLog, IsFlying, IsGoing, IsNext, SameRoot, OwnFlight, Applies, AppliedBy, AfterApply, AfterCommand, has_stop};
 
 use crate::log::{Halt, make_durable};
@@ -46,6 +46,7 @@ fn apply_part<L: Disk, D: Disk + Drop, C: Clock>(
     ensures applied { Applies engine.old engine.new by at to }
     ensures goes { engine.new.tablet.core.stopped ≡ false }
     ensures store { engine.new.store ≡ engine.old.store }
+    ensures upkeep { engine.new.upkeep ≡ engine.old.upkeep }
 {
     visit_law::<L, D, C>();
     for row in at..to {
@@ -67,6 +68,7 @@ fn go_on<L: Disk, D: Disk + Drop, C: Clock>(
     requires within { at ≤ count }
     ensures visit { IsVisit by engine.old engine.new }
     ensures store { engine.new.store ≡ engine.old.store }
+    ensures upkeep { engine.new.upkeep ≡ engine.old.upkeep }
     ensures applied { AppliedBy engine.old engine.new by at count result }
 {
     engine.standing();
@@ -101,7 +103,7 @@ fn bring_on<L: Disk, D: Disk + Drop, C: Clock, R: Wait>(
     requires within { at ≤ length write.now.ops }
     requires home { HasNoLog (part pass.old) }
     ensures pass { IsBack pass.old pass.new }
-    ensures rests { StoreRests (part pass.old) → StoreRests (part pass.new) }
+    ensures upkeep { KeepsUpkeep (part pass.old) (part pass.new) }
     ensures home { HasNoLog (part pass.new) }
     ensures applied { AfterApply (part pass.old) (part pass.new) (seen pass.old) (seen pass.new) (number pass.old) write.now at result }
 {
@@ -127,7 +129,7 @@ pub fn finish_write<L: Disk, D: Disk + Drop, C: Clock, R: Wait>(
     requires flying { (i : ℕ) × IsFlying (part pass.old) (number pass.old) i write.now 0 }
     requires home { HasNoLog (part pass.old) }
     ensures pass { IsBack pass.old pass.new }
-    ensures rests { StoreRests (part pass.old) → StoreRests (part pass.new) }
+    ensures upkeep { KeepsUpkeep (part pass.old) (part pass.new) }
     ensures home { HasNoLog (part pass.new) }
     ensures root { SameRoot (part pass.old) (part pass.new) }
     ensures reply { IfOk result (λ reply. (i : ℕ) → IsFlying (part pass.old) (number pass.old) i write.now 0 → AfterCommand (part pass.old) (part pass.new) (seen pass.old) (seen pass.new) (number pass.old) i reply) }

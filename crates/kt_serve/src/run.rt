@@ -1,14 +1,14 @@
 //! The sessions of a plan at once, and workers beside them, each in a thread.
-ghost use Rattle.std.specs.Prelude.{◌≡◌, ◌+◌, ◌<◌, ◌≤◌, ℕ, [], IfOk, IfErr, Some, None, length, vec_capacity, slice_get};
+ghost use Rattle.std.specs.Prelude.{◌≡◌, ◌⊎◌, ◌+◌, ◌<◌, ◌≤◌, ℕ, [], IfOk, IfErr, Some, None, true, length, vec_capacity, slice_get};
 ghost use Rattle.kt_history.specs.Machine.{nth, first_turns};
 ghost use Rattle.kt_seatlock.specs.Passes.{number, seen, part, given, passes_of, IsVacant, IsPassOf, MayEnter, IsBack};
 ghost use Rattle.kt_engine.specs.Visits.{root_of};
-ghost use Rattle.kt_serve.specs.Maintained.{StoreRests};
+ghost use Rattle.kt_serve.specs.Maintained.{HasNoJob, StoreRests};
 ghost use Rattle.kt_serve.specs.Points.{CameTo};
 ghost use Rattle.kt_serve.specs.Scans.{IsOn};
-ghost use Rattle.kt_serve.specs.Sessions.{OnRoot, HasLeft, HasNoLog, IsFresh, MayRun};
+ghost use Rattle.kt_serve.specs.Sessions.{OnRoot, HasLeft, HasNoLog, IsFresh, MayRun, has_stop};
 ghost use Rattle.kt_serve.specs.Closing.{EndsAs};
-ghost use Rattle.kt_serve.specs.Runs.{HasRunTo, PlaceHasRun, PlanRuns, AllEnded};
+ghost use Rattle.kt_serve.specs.Runs.{HasRunTo, PlaceHasRun, PlanRuns, AllEnded, HaveBegunRounds};
 
 use crate::chores::Chores;
 use crate::close::{Closing, End};
@@ -44,6 +44,7 @@ fn run_one<L: Disk, D: Disk + Drop, C: Clock, R: Wait, G: Gate, H: Chores<L, D, 
     requires runs { MayRun (part place.old.pass) (seen place.old.pass) (number place.old.pass) commands.now }
     ensures pass { IsBack place.old.pass place.new.pass }
     ensures rests { StoreRests (part place.new.pass) }
+    ensures none { HasNoJob (part place.old.pass) → HasNoJob (part place.new.pass) ⊎ (has_stop (seen place.new.pass) ≡ true) }
     ensures run { HasRunTo (CameTo G.came gate.now) (part place.old.pass) (part place.new.pass) (number place.old.pass) commands.now (seen place.new.pass) place.new.end }
 {
     place.end = run_session(
@@ -77,6 +78,7 @@ fn run_and_leave<L: Disk, D: Disk + Drop, C: Clock, R: Wait, G: Gate, H: Chores<
     ensures rests { StoreRests (part place.new.pass) }
     ensures left { HasLeft (part place.new.pass) }
     ensures home { HasNoLog (part place.new.pass) }
+    ensures none { HasNoJob (part place.old.pass) → HasNoJob (part place.new.pass) ⊎ (has_stop (seen place.new.pass) ≡ true) }
     ensures run { HasRunTo (CameTo G.came gate.now) (part place.old.pass) (part place.new.pass) (number place.old.pass) commands.now (seen place.new.pass) place.new.end }
 {
     run_one(rt, alloc, schema, tablet, commands, gate, chores, place);
@@ -96,6 +98,7 @@ fn work_and_leave<L: Disk, D: Disk + Drop, C: Clock, R: Wait, H: Chores<L, D, C>
     requires idle { HasNoLog (part pass.old) }
     ensures pass { IsBack pass.old pass.new }
     ensures rests { StoreRests (part pass.new) }
+    ensures none { HasNoJob (part pass.old) → HasNoJob (part pass.new) ⊎ (has_stop (seen pass.new) ≡ true) }
     ensures left { HasLeft (part pass.new) }
     ensures home { HasNoLog (part pass.new) }
 {
@@ -218,6 +221,7 @@ fn run_locked<
     ensures home { IfOk result (λ r. r.1.engine.log.holder ≡ None) }
     ensures store_home { IfOk result (λ r. r.1.engine.store.holder ≡ None) }
     ensures ended { IfOk result (λ r. AllEnded (CameTo G.came gate.now) (root_of engine) plan.now r.1.engine.tablet.core.trail r.0.items) }
+    ensures rounds { IfOk result (λ r. HaveBegunRounds plan.now r.0.items r.1.engine) }
     ensures ends { IfOk result (λ r. EndsAs r.1.engine r.1.end) }
     ensures back { IfErr result (λ e. e ≡ engine) }
 {
@@ -248,7 +252,7 @@ pub struct Ran<L: Disk, D: Disk, C: Clock> {
 
 /// Runs the sessions of a plan at once over an engine in which nothing has happened yet, and so many workers beside them, each by a pass of its own in a
 /// thread of its own where one can be made, makes durable what then still waits for the log, and publishes a superblock. For every schedule, each
-/// session has the replies that the engine's lines tell it, and no other. Where there was no memory for the passes, nothing
+/// session has the replies that the engine's lines tell it, and no other, and has begun a round of maintenance at least for each command that asked for it. Where there was no memory for the passes, nothing
 /// was run, and the engine comes back.
 pub fn run_sessions<
     L: Disk + Send,
@@ -279,6 +283,7 @@ pub fn run_sessions<
     ensures home { IfOk result (λ ran. ran.engine.log.holder ≡ None) }
     ensures store_home { IfOk result (λ ran. ran.engine.store.holder ≡ None) }
     ensures ended { IfOk result (λ ran. AllEnded (CameTo G.came gate.now) (root_of engine) plan.now ran.engine.tablet.core.trail ran.ends.items) }
+    ensures rounds { IfOk result (λ ran. HaveBegunRounds plan.now ran.ends.items ran.engine) }
     ensures ends { IfOk result (λ ran. EndsAs ran.engine ran.end) }
     ensures halted { IfOk result (λ ran. (s : ℕ) (end : _) → nth ran.ends.items s ≡ Some end → end.halt ≡ Some Halt.Stopped → ran.end ≡ End.Stopped) }
     ensures back { IfErr result (λ e. e ≡ engine) }

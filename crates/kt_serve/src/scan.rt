@@ -5,7 +5,7 @@ ghost use Rattle.kt_history.specs.declared.command.Command.{Command};
 ghost use Rattle.kt_history.specs.declared.scan.At.TheVariants.{Looked};
 ghost use Rattle.kt_seatlock.specs.Passes.{number, seen, part, MayEnter, IsBack};
 ghost use Rattle.kt_serve.specs.Answered.{IsAnswered, IsOpen};
-ghost use Rattle.kt_serve.specs.Maintained.{StoreRests};
+ghost use Rattle.kt_serve.specs.Maintained.{KeepsUpkeep};
 ghost use Rattle.kt_serve.specs.Sessions.{IsFree, IsCommand, OnRoot, SameRoot, HasNoLog, IsGoing, AfterCommand, has_stop};
 ghost use Rattle.kt_serve.specs.Scans.{IsOn, ScansAt, IsLooking, AfterLook, turn_of_read, changes, AfterRead, LacksReply};
 
@@ -67,7 +67,7 @@ fn look_once<L: Disk, D: Disk + Drop, C: Clock, R: Wait>(
     requires next { IsFree (part pass.old) index }
     requires scan { ScansAt (part pass.old) (number pass.old) index Looked }
     ensures pass { IsBack pass.old pass.new }
-    ensures rests { StoreRests (part pass.old) → StoreRests (part pass.new) }
+    ensures upkeep { KeepsUpkeep (part pass.old) (part pass.new) }
     ensures home { HasNoLog (part pass.new) }
     ensures root { SameRoot (part pass.old) (part pass.new) }
     ensures looked { AfterLook (part pass.old) (part pass.new) (seen pass.old) (seen pass.new) (number pass.old) index result }
@@ -92,7 +92,7 @@ fn draw_time<L: Disk, D: Disk + Drop, C: Clock, R: Wait>(
     requires next { IsFree (part pass.old) index }
     requires scan { ScansAt (part pass.old) (number pass.old) index at }
     ensures pass { IsBack pass.old pass.new }
-    ensures rests { StoreRests (part pass.old) → StoreRests (part pass.new) }
+    ensures upkeep { KeepsUpkeep (part pass.old) (part pass.new) }
     ensures home { HasNoLog (part pass.new) }
     ensures going { IsGoing (number pass.old) (part pass.old) (part pass.new) (seen pass.old) (seen pass.new) }
     ensures drawn { OnOk result (IsLooking (part pass.new) index at) }
@@ -122,7 +122,7 @@ fn read_once<L: Disk, D: Disk + Drop, C: Clock, R: Wait>(
     requires scan { ScansAt (part pass.old) (number pass.old) index at }
     requires few { index + 1 < 2 ^ 32 }
     ensures pass { IsBack pass.old pass.new }
-    ensures rests { StoreRests (part pass.old) → StoreRests (part pass.new) }
+    ensures upkeep { KeepsUpkeep (part pass.old) (part pass.new) }
     ensures home { HasNoLog (part pass.new) }
     ensures root { SameRoot (part pass.old) (part pass.new) }
     ensures open { OnRoot (part pass.old) (λ root. IsOpen root (number pass.old) index (seen pass.old)) }
@@ -154,7 +154,7 @@ fn read_rows<L: Disk, D: Disk + Drop, C: Clock, R: Wait>(
     requires command { IsCommand (part pass.old) (number pass.old) index (Command.Scan scan.now) }
     requires few { index + 1 < 2 ^ 32 }
     ensures pass { IsBack pass.old pass.new }
-    ensures rests { StoreRests (part pass.old) → StoreRests (part pass.new) }
+    ensures upkeep { KeepsUpkeep (part pass.old) (part pass.new) }
     ensures home { HasNoLog (part pass.new) }
     ensures root { SameRoot (part pass.old) (part pass.new) }
     ensures open { OnOk result (OnRoot (part pass.old) (λ root. IsOpen root (number pass.old) index (seen pass.old))) }
@@ -194,7 +194,7 @@ impl<L: Disk, D: Disk + Drop, C: Clock> SharedTablet<L, D, C> {
         requires command { IsCommand (part pass.old) (number pass.old) index (Command.Scan scan.now) }
         requires few { index + 1 < 2 ^ 32 }
         ensures pass { IsBack pass.old pass.new }
-        ensures rests { StoreRests (part pass.old) → StoreRests (part pass.new) }
+        ensures upkeep { KeepsUpkeep (part pass.old) (part pass.new) }
         ensures home { HasNoLog (part pass.new) }
         ensures root { SameRoot (part pass.old) (part pass.new) }
         ensures reply { IfOk result (λ reply. AfterCommand (part pass.old) (part pass.new) (seen pass.old) (seen pass.new) (number pass.old) index reply) }

@@ -5,7 +5,7 @@ ghost use Rattle.kt_history.specs.declared.reply.Reply.{Reply};
 ghost use Rattle.kt_history.specs.Machine.{nth};
 ghost use Rattle.kt_seatlock.specs.Passes.{number, seen, part, MayEnter, IsBack};
 ghost use Rattle.kt_engine.specs.Visits.{Root};
-ghost use Rattle.kt_serve.specs.Maintained.{StoreRests};
+ghost use Rattle.kt_serve.specs.Maintained.{HasNoJob, HasRounds, StoreRests, chores_in};
 ghost use Rattle.kt_serve.specs.Points.{CameTo};
 ghost use Rattle.kt_serve.specs.Scans.{IsOn, TellsBut};
 ghost use Rattle.kt_serve.specs.Sessions.{IsFree, IsCommand, HasNoLog, CanRun, SameRoot, OnRoot, TellsOwn, has_stop};
@@ -14,9 +14,10 @@ use crate::chores::Chores;
 use crate::log::Halt;
 use crate::replies::SessionReplies;
 use crate::tablet::SharedTablet;
+use crate::visits::clear_room;
 use kt_base::{Clock, NoMemory};
 use kt_disk::{Disk, Gate, Point};
-use kt_engine::Engine;
+use kt_engine::{Engine, Stopped};
 use kt_history::{Command, Reply};
 use kt_schema::Schema;
 use kt_seatlock::Pass;
@@ -71,6 +72,8 @@ fn take_next<L: Disk, D: Disk + Drop, C: Clock, R: Wait, G: Gate, H: Chores<L, D
     ensures more { OnOk result (length replies.new.items ≡ length replies.old.items + 1) }
     ensures same { OnErr result (replies.new.items ≡ replies.old.items) }
     ensures stopped { result ≡ Err Halt.Stopped → has_stop (seen pass.new) ≡ true }
+    ensures none { result ≢ Err Halt.Stopped → HasNoJob (part pass.old) → HasNoJob (part pass.new) }
+    ensures rounds { OnOk result ((n : ℕ) → n + 1 < 2 ^ 64 → HasRounds n (part pass.old) → HasRounds (n + chores_in (command.now ∷ [])) (part pass.new)) }
     ensures points { OnOk result ((reply : Reply) × (replies.new.items ≡ replies.old.items ++ reply ∷ []) × CameTo G.came gate.now (number pass.old) index reply) }
 {
     if replies.reserve(1).is_err() {
@@ -91,9 +94,8 @@ fn take_next<L: Disk, D: Disk + Drop, C: Clock, R: Wait, G: Gate, H: Chores<L, D
     }
 }
 
-/// Runs a session to its end. Its replies are what the lines that its pass has then seen tell for its commands, and no
-/// other command of it has one. A command that met want of memory has no reply, though a line may answer it.
-pub fn run_session<L: Disk, D: Disk + Drop, C: Clock, R: Wait, G: Gate, H: Chores<L, D, C>>(
+// Runs the commands of a session in turn.
+fn run_commands<L: Disk, D: Disk + Drop, C: Clock, R: Wait, G: Gate, H: Chores<L, D, C>>(
     rt: &R,
     alloc: Global,
     schema: &Schema,
@@ -119,6 +121,8 @@ pub fn run_session<L: Disk, D: Disk + Drop, C: Clock, R: Wait, G: Gate, H: Chore
     ensures lost { result.halt ≡ Some Halt.Memory → OnRoot (part pass.old) (λ root. TellsBut root (number pass.old) result.replies (seen pass.new)) }
     ensures all { result.halt ≡ None → length result.replies ≡ length commands.now }
     ensures stopped { result.halt ≡ Some Halt.Stopped → has_stop (seen pass.new) ≡ true }
+    ensures none { result.halt ≢ Some Halt.Stopped → HasNoJob (part pass.old) → HasNoJob (part pass.new) }
+    ensures rounds { result.halt ≡ None → HasRounds (chores_in commands.now) (part pass.new) }
     ensures points { (k : ℕ) (reply : Reply) → nth result.replies k ≡ Some reply → CameTo G.came gate.now (number pass.old) k reply }
 {
     let mut replies = Vec::new(alloc);
@@ -148,5 +152,48 @@ pub fn run_session<L: Disk, D: Disk + Drop, C: Clock, R: Wait, G: Gate, H: Chore
     SessionEnd {
         replies: SessionReplies::of(replies),
         halt: None,
+    }
+}
+
+/// Runs a session to its end. Its replies are what the lines that its pass has then seen tell for its commands, and no
+/// other command of it has one. A command that met want of memory has no reply, though a line may answer it. Of a whole session the pass has begun a round at
+/// least for each command that asks for maintenance. It is left no job unless the tablet has stopped. Where more cells are in use than a session may
+/// begin with, it makes room first.
+pub fn run_session<L: Disk, D: Disk + Drop, C: Clock, R: Wait, G: Gate, H: Chores<L, D, C>>(
+    rt: &R,
+    alloc: Global,
+    schema: &Schema,
+    tablet: &SharedTablet<L, D, C>,
+    commands: &[Command],
+    pass: &mut Pass<Engine<L, D, C>>,
+    gate: &G,
+    chores: &H,
+) -> SessionEnd
+    requires enters { MayEnter tablet.now.lock pass.old }
+    requires on { OnRoot (part pass.old) (λ root. IsOn schema.now root.work) }
+    requires rests { StoreRests (part pass.old) }
+    requires next { IsFree (part pass.old) 1 }
+    requires plan { OnRoot (part pass.old) (λ root. nth root.work.plan (number pass.old) ≡ Some commands.now) }
+    requires runs { (k : ℕ) (command : Command) → nth commands.now k ≡ Some command → CanRun k command }
+    requires few { length commands.now < 2 ^ 31 }
+    requires tells { OnRoot (part pass.old) (λ root. TellsOwn root (number pass.old) [] (seen pass.old)) }
+    ensures pass { IsBack pass.old pass.new }
+    ensures rests { StoreRests (part pass.new) }
+    ensures home { HasNoLog (part pass.new) }
+    ensures root { SameRoot (part pass.old) (part pass.new) }
+    ensures tells { result.halt ≢ Some Halt.Memory → OnRoot (part pass.old) (λ root. TellsOwn root (number pass.old) result.replies (seen pass.new)) }
+    ensures lost { result.halt ≡ Some Halt.Memory → OnRoot (part pass.old) (λ root. TellsBut root (number pass.old) result.replies (seen pass.new)) }
+    ensures all { result.halt ≡ None → length result.replies ≡ length commands.now }
+    ensures stopped { result.halt ≡ Some Halt.Stopped → has_stop (seen pass.new) ≡ true }
+    ensures none { result.halt ≢ Some Halt.Stopped → HasNoJob (part pass.old) → HasNoJob (part pass.new) }
+    ensures rounds { result.halt ≡ None → HasRounds (chores_in commands.now) (part pass.new) }
+    ensures points { (k : ℕ) (reply : Reply) → nth result.replies k ≡ Some reply → CameTo G.came gate.now (number pass.old) k reply }
+{
+    match clear_room(rt, alloc, &tablet.lock, pass, chores) {
+        Ok(()) => run_commands(rt, alloc, schema, tablet, commands, pass, gate, chores),
+        Err(Stopped) => SessionEnd {
+            replies: SessionReplies::none(alloc),
+            halt: Some(Halt::Stopped),
+        },
     }
 }

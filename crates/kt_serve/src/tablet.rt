@@ -10,7 +10,7 @@ ghost use Rattle.kt_engine.specs.Visits.{root_of};
 ghost use Rattle.kt_tablet.specs.Views.{IsSound};
 ghost use Rattle.kt_serve.specs.Answered.{IsAnswered};
 ghost use Rattle.kt_serve.specs.Closing.{IsTold, AreHome, MayHalt, EndsAs};
-ghost use Rattle.kt_serve.specs.Maintained.{StoreRests};
+ghost use Rattle.kt_serve.specs.Maintained.{HasNoJob, KeepsRounds, KeepsUpkeep, StoreRests};
 ghost use Rattle.kt_serve.specs.Scans.{IsOn, LacksReply};
 ghost use Rattle.kt_serve.specs.Sessions.{IsFree, IsCommand, IsWrite, IsStill, IsGoing, SameRoot, OnRoot, HasNoLog, HasLeft, AfterCommand, CanRun, has_stop};
 
@@ -68,6 +68,8 @@ impl<L: Disk, D: Disk + Drop, C: Clock> SharedTablet<L, D, C> {
         requires write { IsWrite index write.now.ops }
         ensures pass { IsBack pass.old pass.new }
         ensures rests { StoreRests (part pass.new) }
+        ensures none { result ≢ Ok Reply.Stopped → HasNoJob (part pass.old) → HasNoJob (part pass.new) }
+        ensures rounds { IfOk result (λ reply. reply ≢ Reply.Stopped → KeepsRounds (part pass.old) (part pass.new)) }
         ensures home { HasNoLog (part pass.new) }
         ensures root { SameRoot (part pass.old) (part pass.new) }
         ensures reply { IfOk result (λ reply. AfterCommand (part pass.old) (part pass.new) (seen pass.old) (seen pass.new) (number pass.old) index reply) }
@@ -101,7 +103,7 @@ impl<L: Disk, D: Disk + Drop, C: Clock> SharedTablet<L, D, C> {
         requires command { IsCommand (part pass.old) (number pass.old) index (Command.Mark to) }
         requires few { index + 1 < 2 ^ 32 }
         ensures pass { IsBack pass.old pass.new }
-        ensures rests { StoreRests (part pass.old) → StoreRests (part pass.new) }
+        ensures upkeep { KeepsUpkeep (part pass.old) (part pass.new) }
         ensures home { HasNoLog (part pass.new) }
         ensures root { SameRoot (part pass.old) (part pass.new) }
         ensures reply { IfOk result (λ reply. AfterCommand (part pass.old) (part pass.new) (seen pass.old) (seen pass.new) (number pass.old) index reply) }
@@ -129,6 +131,7 @@ impl<L: Disk, D: Disk + Drop, C: Clock> SharedTablet<L, D, C> {
         requires few { index + 1 < 2 ^ 32 }
         ensures pass { IsBack pass.old pass.new }
         ensures rests { StoreRests (part pass.new) }
+        ensures none { result ≢ Ok Reply.Stopped → HasNoJob (part pass.old) → HasNoJob (part pass.new) }
         ensures home { HasNoLog (part pass.new) }
         ensures root { SameRoot (part pass.old) (part pass.new) }
         ensures reply { IfOk result (λ reply. AfterCommand (part pass.old) (part pass.new) (seen pass.old) (seen pass.new) (number pass.old) index reply) }
@@ -144,7 +147,7 @@ impl<L: Disk, D: Disk + Drop, C: Clock> SharedTablet<L, D, C> {
     pub fn leave_run<R: Wait>(&self, rt: &R, pass: &mut Pass<Engine<L, D, C>>)
         requires enters { MayEnter self.now.lock pass.old }
         ensures pass { IsBack pass.old pass.new }
-        ensures rests { StoreRests (part pass.old) → StoreRests (part pass.new) }
+        ensures upkeep { KeepsUpkeep (part pass.old) (part pass.new) }
         ensures still { IsStill (number pass.old) (part pass.old) (part pass.new) (seen pass.old) (seen pass.new) }
         ensures left { HasLeft (part pass.new) }
         ensures log { HasNoLog (part pass.old) → HasNoLog (part pass.new) }
@@ -157,13 +160,14 @@ impl<L: Disk, D: Disk + Drop, C: Clock> SharedTablet<L, D, C> {
     }
 
     /// Ends a run, once each other pass was joined into this one and none has a device: makes durable what still waits for the log, and publishes a
-    /// superblock with the present mark and last timestamp. The tablet that it leaves is the one that all passes tell, but for a `stop` line.
+    /// superblock with the present mark and last timestamp. The tablet that it leaves is the one that all passes tell, but for a `stop` line, and so is what they have
+    /// of maintenance.
     pub fn close(self, alloc: Global, pass: Pass<Engine<L, D, C>>) -> Closing<L, D, C>
         requires own { IsPassOf self.lock pass }
         requires outside { IsOutside pass }
         requires last { IsLastPass pass }
         requires home { AreHome pass }
-        ensures told { (view : EngineView L D C) × IsTold pass view × IsSound C.readings view.tablet × (root_of result.engine ≡ root_of view) × MayHalt view result.engine }
+        ensures told { (view : EngineView L D C) × IsTold pass view × IsSound C.readings view.tablet × (root_of result.engine ≡ root_of view) × MayHalt view result.engine × (result.engine.upkeep ≡ view.upkeep) }
         ensures home { result.engine.log.holder ≡ None }
         ensures store_home { result.engine.store.holder ≡ None }
         ensures ends { EndsAs result.engine result.end }
@@ -196,6 +200,8 @@ impl<L: Disk, D: Disk + Drop, C: Clock> SharedTablet<L, D, C> {
         requires runs { CanRun index command.now }
         ensures pass { IsBack pass.old pass.new }
         ensures rests { StoreRests (part pass.new) }
+        ensures none { result ≢ Ok Reply.Stopped → HasNoJob (part pass.old) → HasNoJob (part pass.new) }
+        ensures rounds { IfOk result (λ reply. reply ≢ Reply.Stopped → KeepsRounds (part pass.old) (part pass.new)) }
         ensures home { HasNoLog (part pass.new) }
         ensures root { SameRoot (part pass.old) (part pass.new) }
         ensures reply { IfOk result (λ reply. AfterCommand (part pass.old) (part pass.new) (seen pass.old) (seen pass.new) (number pass.old) index reply) }

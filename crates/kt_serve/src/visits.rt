@@ -3,14 +3,15 @@ ghost use Rattle.std.specs.Prelude.{◌≡◌, ◌≢◌, ◌<◌, ◌+◌, ◌^
 ghost use Rattle.kt_history.specs.declared.change.Outcome.{Outcome};
 ghost use Rattle.kt_history.specs.declared.command.Command.{Command};
 ghost use Rattle.kt_seatlock.specs.Passes.{number, seen, part, MayEnter, IsBack};
+ghost use Rattle.kt_engine.specs.Calls.{SeesOthers};
 ghost use Rattle.kt_serve.specs.Answered.{IsOpen};
-ghost use Rattle.kt_serve.specs.Maintained.{StoreRests};
+ghost use Rattle.kt_serve.specs.Maintained.{HasNoJob, KeepsRounds, KeepsUpkeep, StoreRests};
 ghost use Rattle.kt_serve.specs.Sessions.{IsFree, IsCommand, IsWrite, SameRoot, OnRoot, AfterBegin, AfterBeginning, AfterCommand, IsGoing, HasNoLog, has_stop};
 
 use crate::chores::Chores;
 use kt_base::{Chore, Clock, NoMemory};
 use kt_disk::Disk;
-use kt_engine::{BeginNo, Draft, Engine, LookNo, MaintNo};
+use kt_engine::{BeginNo, Draft, Engine, LookNo, MaintNo, Stopped};
 use kt_history::{Reply, Write};
 use kt_seatlock::{Pass, SeatLock};
 use std::alloc::Global;
@@ -38,7 +39,7 @@ pub fn begin_once<L: Disk, D: Disk + Drop, C: Clock, R: Wait>(
     requires command { IsCommand (part pass.old) (number pass.old) index (Command.Write (record { ops = draft.old.write.ops })) }
     requires write { IsWrite index draft.old.write.ops }
     ensures pass { IsBack pass.old pass.new }
-    ensures rests { StoreRests (part pass.old) → StoreRests (part pass.new) }
+    ensures upkeep { KeepsUpkeep (part pass.old) (part pass.new) }
     ensures root { SameRoot (part pass.old) (part pass.new) }
     ensures open { OnRoot (part pass.old) (λ root. IsOpen root (number pass.old) index (seen pass.old)) }
     ensures begun { AfterBegin (part pass.old) (part pass.new) (seen pass.old) (seen pass.new) (number pass.old) index draft.old.write.ops result }
@@ -69,6 +70,8 @@ fn run_for_room<L: Disk, D: Disk + Drop, C: Clock, R: Wait, H: Chores<L, D, C>>(
     ensures rests { StoreRests (part pass.new) }
     ensures next { IsFree (part pass.new) index }
     ensures going { IsGoing (number pass.old) (part pass.old) (part pass.new) (seen pass.old) (seen pass.new) }
+    ensures none { result ≢ Err MaintNo.Stopped → HasNoJob (part pass.old) → HasNoJob (part pass.new) }
+    ensures rounds { OnOk result (KeepsRounds (part pass.old) (part pass.new)) }
     ensures stopped { result ≡ Err MaintNo.Stopped → has_stop (seen pass.new) ≡ true }
 {
     chores.run(rt, alloc, lock, pass, chore)
@@ -90,12 +93,65 @@ fn make_room<L: Disk, D: Disk + Drop, C: Clock, R: Wait, H: Chores<L, D, C>>(
     ensures rests { StoreRests (part pass.new) }
     ensures next { IsFree (part pass.new) index }
     ensures going { IsGoing (number pass.old) (part pass.old) (part pass.new) (seen pass.old) (seen pass.new) }
+    ensures none { result ≢ Err MaintNo.Stopped → HasNoJob (part pass.old) → HasNoJob (part pass.new) }
+    ensures rounds { OnOk result (KeepsRounds (part pass.old) (part pass.new)) }
     ensures stopped { result ≡ Err MaintNo.Stopped → has_stop (seen pass.new) ≡ true }
 {
     let rows = run_for_room(rt, alloc, lock, pass, index, chores, Chore::Flush);
     match rows {
         Ok(()) => run_for_room(rt, alloc, lock, pass, index, chores, Chore::FlushDeltas),
         Err(no) => Err(no),
+    }
+}
+
+// One visit that asks whether more cells of the pool are in use than these, as far as there is memory to tell. It wakes nobody who rests.
+fn is_crowded<L: Disk, D: Disk + Drop, C: Clock, R: Wait>(
+    rt: &R,
+    alloc: Global,
+    lock: &SeatLock<Engine<L, D, C>>,
+    pass: &mut Pass<Engine<L, D, C>>,
+    most: u32,
+) -> bool
+    requires enters { MayEnter lock.now pass.old }
+    ensures pass { IsBack pass.old pass.new }
+    ensures same { part pass.new ≡ part pass.old }
+    ensures quiet { SeesOthers (number pass.old) (seen pass.old) (seen pass.new) }
+{
+    let engine = lock.enter(rt, pass);
+    let stats = engine.stats(alloc);
+    lock.leave_same(pass, engine);
+    match stats {
+        Ok(stats) => stats.cells.saturating_sub(stats.free) > most,
+        Err(NoMemory) => false,
+    }
+}
+
+/// Makes room before the first command of a session, where more cells are in use than it may begin with: opening makes a pool with several times the cells that
+/// the unflushed operations of the log then take, so no write would ask for room. Want of memory is passed over.
+pub fn clear_room<L: Disk, D: Disk + Drop, C: Clock, R: Wait, H: Chores<L, D, C>>(
+    rt: &R,
+    alloc: Global,
+    lock: &SeatLock<Engine<L, D, C>>,
+    pass: &mut Pass<Engine<L, D, C>>,
+    chores: &H,
+) -> Result<(), Stopped>
+    requires enters { MayEnter lock.now pass.old }
+    requires rests { StoreRests (part pass.old) }
+    requires next { IsFree (part pass.old) 1 }
+    ensures pass { IsBack pass.old pass.new }
+    ensures rests { StoreRests (part pass.new) }
+    ensures next { IsFree (part pass.new) 1 }
+    ensures going { IsGoing (number pass.old) (part pass.old) (part pass.new) (seen pass.old) (seen pass.new) }
+    ensures none { OnOk result (HasNoJob (part pass.old) → HasNoJob (part pass.new)) }
+    ensures stopped { OnErr result (has_stop (seen pass.new) ≡ true) }
+{
+    if !is_crowded(rt, alloc, lock, pass, chores.most_cells()) {
+        return Ok(());
+    }
+    match make_room(rt, alloc, lock, pass, 1, chores) {
+        Ok(()) => Ok(()),
+        Err(MaintNo::Stopped) => Err(Stopped),
+        Err(MaintNo::Memory) => Ok(()),
     }
 }
 
@@ -117,6 +173,8 @@ pub fn begin_write<L: Disk, D: Disk + Drop, C: Clock, R: Wait, H: Chores<L, D, C
     requires write { IsWrite index write.now.ops }
     ensures pass { IsBack pass.old pass.new }
     ensures rests { StoreRests (part pass.new) }
+    ensures none { result ≢ Ok (Some Reply.Stopped) → HasNoJob (part pass.old) → HasNoJob (part pass.new) }
+    ensures rounds { result ≢ Ok (Some Reply.Stopped) → OnOk result (KeepsRounds (part pass.old) (part pass.new)) }
     ensures home { HasNoLog (part pass.new) }
     ensures open { OnOk result (OnRoot (part pass.old) (λ root. IsOpen root (number pass.old) index (seen pass.old))) }
     ensures unwritten { (ts : ℕ) (outcomes : List Outcome) → result ≢ Ok (Some (Reply.At ts outcomes)) }
@@ -157,7 +215,7 @@ pub fn mark_once<L: Disk, D: Disk + Drop, C: Clock, R: Wait>(
     requires command { IsCommand (part pass.old) (number pass.old) index (Command.Mark to) }
     requires few { index + 1 < 2 ^ 32 }
     ensures pass { IsBack pass.old pass.new }
-    ensures rests { StoreRests (part pass.old) → StoreRests (part pass.new) }
+    ensures upkeep { KeepsUpkeep (part pass.old) (part pass.new) }
     ensures home { HasNoLog (part pass.new) }
     ensures root { SameRoot (part pass.old) (part pass.new) }
     ensures open { OnOk result (OnRoot (part pass.old) (λ root. IsOpen root (number pass.old) index (seen pass.old))) }

@@ -1,11 +1,11 @@
 use Rattle.std.proofs.Common.{None, rules, ap, ◌∙◌}
-use Rattle.kt_serve.proofs.Maintained.{may_answer, is_through, after_chore, keeps_upkeep}
+use Rattle.kt_serve.proofs.Maintained.{may_answer, is_through, after_chore}
 use Rattle.kt_serve.proofs.Begins.{same_root, free_turn}
 use Rattle.kt_serve.proofs.Open.{is_open}
 use Rattle.kt_serve.proofs.Stills.{still_tablet, still_going}
 use Rattle.kt_serve.proofs.Commands.{free_log}
 use Rattle.kt_serve.proofs.Ends.{after_stop, log_stays}
-use Rattle.kt_serve.proofs.Rests.{store_stays}
+use Rattle.kt_serve.proofs.Rests.{upkeep_stays}
 use Rattle.kt_serve.proofs.chores.answer_once.Goals as goal
 
 pub chore_done-answered-requires-clause-may : goal.chore_done-answered-requires-clause-may
@@ -43,19 +43,10 @@ pub returns-in-Err-Stopped-clause-open : goal.returns-in-Err-Stopped-clause-open
 returns-in-Err-Stopped-clause-open g c = is_open _ c.enter-engine.result _ c.args.index None _ g.C.Clock.readings c.enter-engine.ensures.part.0 (free_turn _ _ c.enter-engine.result _ c.requires.next c.enter-engine.ensures.part.0) c.enter-engine.ensures.trail c.standing.ensures.sound
 
 pub returns-in-Ok-clause-upkeep : goal.returns-in-Ok-clause-upkeep
-returns-in-Ok-clause-upkeep g c = keeps_upkeep _ _ c.enter-engine.result c.chore_done-answered.new.self _ _ c.enter-engine.ensures.part.0 c.leave.ensures.told.1 (c.leave.ensures.pass.0.1 ∙ c.enter-engine.ensures.pass.0.1) (ap (λ v. v.upkeep) c.in-Ok.ensures.answered)
+returns-in-Ok-clause-upkeep g c = upkeep_stays _ _ c.enter-engine.result c.chore_done-answered.new.self _ _ c.enter-engine.ensures.part.0 c.leave.ensures.told.1 (c.leave.ensures.pass.0.1 ∙ c.enter-engine.ensures.pass.0.1) (ap (λ v. v.store) c.in-Ok.ensures.answered) (ap (λ v. v.upkeep) c.in-Ok.ensures.answered)
 
 pub returns-in-Err-Stopped-clause-upkeep : goal.returns-in-Err-Stopped-clause-upkeep
-returns-in-Err-Stopped-clause-upkeep g c = keeps_upkeep _ _ c.enter-engine.result c.chore_done-answered.new.self _ _ c.enter-engine.ensures.part.0 c.leave.ensures.told.1 (c.leave.ensures.pass.0.1 ∙ c.enter-engine.ensures.pass.0.1) (ap (λ v. v.upkeep) (rw c.in-Err-Stopped.is at c.chore_done-answered.ensures.same))
+returns-in-Err-Stopped-clause-upkeep g c = upkeep_stays _ _ c.enter-engine.result c.chore_done-answered.new.self _ _ c.enter-engine.ensures.part.0 c.leave.ensures.told.1 (c.leave.ensures.pass.0.1 ∙ c.enter-engine.ensures.pass.0.1) (ap (λ v. v.store) (rw c.in-Err-Stopped.is at c.chore_done-answered.ensures.same)) (ap (λ v. v.upkeep) (rw c.in-Err-Stopped.is at c.chore_done-answered.ensures.same))
 
 pub returns-in-Err-Memory-clause-upkeep : goal.returns-in-Err-Memory-clause-upkeep
-returns-in-Err-Memory-clause-upkeep g c = keeps_upkeep _ _ c.enter-engine.result c.chore_done-answered.new.self _ _ c.enter-engine.ensures.part.0 c.leave.ensures.told.1 (c.leave.ensures.pass.0.1 ∙ c.enter-engine.ensures.pass.0.1) (ap (λ v. v.upkeep) (rw c.in-Err-Memory.is at c.chore_done-answered.ensures.same))
-
-pub returns-in-Ok-clause-rests : goal.returns-in-Ok-clause-rests
-returns-in-Ok-clause-rests g c = store_stays _ _ c.enter-engine.result c.chore_done-answered.new.self _ _ c.enter-engine.ensures.part.0 c.leave.ensures.told.1 (c.leave.ensures.pass.0.1 ∙ c.enter-engine.ensures.pass.0.1) (ap (λ v. v.store) c.in-Ok.ensures.answered)
-
-pub returns-in-Err-Stopped-clause-rests : goal.returns-in-Err-Stopped-clause-rests
-returns-in-Err-Stopped-clause-rests g c = store_stays _ _ c.enter-engine.result c.chore_done-answered.new.self _ _ c.enter-engine.ensures.part.0 c.leave.ensures.told.1 (c.leave.ensures.pass.0.1 ∙ c.enter-engine.ensures.pass.0.1) (ap (λ v. v.store) (rw c.in-Err-Stopped.is at c.chore_done-answered.ensures.same))
-
-pub returns-in-Err-Memory-clause-rests : goal.returns-in-Err-Memory-clause-rests
-returns-in-Err-Memory-clause-rests g c = store_stays _ _ c.enter-engine.result c.chore_done-answered.new.self _ _ c.enter-engine.ensures.part.0 c.leave.ensures.told.1 (c.leave.ensures.pass.0.1 ∙ c.enter-engine.ensures.pass.0.1) (ap (λ v. v.store) (rw c.in-Err-Memory.is at c.chore_done-answered.ensures.same))
+returns-in-Err-Memory-clause-upkeep g c = upkeep_stays _ _ c.enter-engine.result c.chore_done-answered.new.self _ _ c.enter-engine.ensures.part.0 c.leave.ensures.told.1 (c.leave.ensures.pass.0.1 ∙ c.enter-engine.ensures.pass.0.1) (ap (λ v. v.store) (rw c.in-Err-Memory.is at c.chore_done-answered.ensures.same)) (ap (λ v. v.upkeep) (rw c.in-Err-Memory.is at c.chore_done-answered.ensures.same))

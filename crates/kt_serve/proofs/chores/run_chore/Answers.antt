@@ -1,7 +1,7 @@
 use Rattle.std.proofs.Common.{rules, refl}
 use Rattle.kt_history.specs.declared.command.Command.TheVariants as command
 use Rattle.kt_seatlock.specs.Passes.{number, part, seen}
-use Rattle.kt_serve.proofs.Rests.{no_device, device_rests}
+use Rattle.kt_serve.proofs.Rests.{no_device, device_rests, upkeep_none, upkeep_rests}
 use Rattle.kt_serve.proofs.Maintained.{device_log, still_goes, still_free, done_with, done_chore, open_chore, reply_chore, lost_chore}
 use Rattle.kt_serve.proofs.Commands.{command_after}
 use Rattle.kt_serve.proofs.chores.run_chore.Goals as goal
@@ -68,10 +68,19 @@ pub returns-in-Err-Stopped-clause-done : goal.returns-in-Err-Stopped-clause-done
 returns-in-Err-Stopped-clause-done g c = λ ne. absurd (ne refl)
 
 pub returns-in-Ok-clause-rests : goal.returns-in-Ok-clause-rests
-returns-in-Ok-clause-rests g c = c.answer_once.ensures.rests (device_rests (part c.run.new.pass) c.run.ensures.home)
+returns-in-Ok-clause-rests g c = upkeep_rests (part c.run.new.pass) (part c.answer_once.new.pass) c.answer_once.ensures.upkeep (device_rests (part c.run.new.pass) c.run.ensures.home)
 
 pub returns-in-Err-Stopped-clause-rests : goal.returns-in-Err-Stopped-clause-rests
 returns-in-Err-Stopped-clause-rests g c = device_rests (part c.run.new.pass) c.run.ensures.home
 
 pub returns-in-Err-Memory-clause-rests : goal.returns-in-Err-Memory-clause-rests
 returns-in-Err-Memory-clause-rests g c = device_rests (part c.run.new.pass) c.run.ensures.home
+
+pub returns-in-Ok-clause-none : goal.returns-in-Ok-clause-none
+returns-in-Ok-clause-none g c = λ _ h. upkeep_none (part c.run.new.pass) (part c.answer_once.new.pass) c.answer_once.ensures.upkeep (c.run.ensures.none (search rules) h)
+
+pub returns-in-Err-Stopped-clause-none : goal.returns-in-Err-Stopped-clause-none
+returns-in-Err-Stopped-clause-none g c = λ ne. absurd (ne refl)
+
+pub returns-in-Err-Memory-clause-none : goal.returns-in-Err-Memory-clause-none
+returns-in-Err-Memory-clause-none g c = λ _ h. c.run.ensures.none (search rules) h

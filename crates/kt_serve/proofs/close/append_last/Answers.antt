@@ -55,3 +55,6 @@ stop-requires-clause-log_moments g c = λ batch is told.
     of_batch (λ b. IsAppendedTo g.L.Disk.seen g.L.Disk.now g.L.Disk.leaves c.args.engine.now.log.known c.args.engine.now.log.out b.journal.disk) _ batch is
     (subst (λ j. IsAppendedTo g.L.Disk.seen g.L.Disk.now g.L.Disk.leaves j c.args.engine.now.log.out came) c.requires.journal.0
     (subst (λ rs. IsAppendedTo g.L.Disk.seen g.L.Disk.now g.L.Disk.leaves c.args.batch.journal rs came) c.requires.journal.1 (c.append_batch.ensures.any_moment told)))
+
+pub returns-in-Err-Fault-clause-upkeep : goal.returns-in-Err-Fault-clause-upkeep
+returns-in-Err-Fault-clause-upkeep g c = ap (λ v. v.upkeep) (c.stop.ensures.home _ refl)

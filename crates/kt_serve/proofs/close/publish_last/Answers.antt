@@ -84,3 +84,8 @@ returns-in-Ok-clause-root g c =
     let none = no_job c.args.number c.args.engine.now.upkeep (sym c.has_job.ensures ∙ c.if-has_job.false) in
     let went = c.in-Ok.ensures.lent.2 ∙ lent_none c.args.engine.now c.args.number (rewritten (job_of c.args.number c.args.engine.now.upkeep)) c.in-Ok.lent.meta c.store_out.new.self.upkeep (ap rewritten none) in
     c.publish_lent.ensures.root ∙ ap root_of went
+
+pub returns-in-Ok-clause-upkeep : goal.returns-in-Ok-clause-upkeep
+returns-in-Ok-clause-upkeep g c =
+    let none = no_job c.args.number c.args.engine.now.upkeep (sym c.has_job.ensures ∙ c.if-has_job.false) in
+    c.publish_lent.ensures.upkeep ∙ c.in-Ok.ensures.upkeep (inr none)

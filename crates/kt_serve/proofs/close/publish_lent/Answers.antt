@@ -152,3 +152,12 @@ stop-requires-clause-store_moments g c = λ lent same.
     let s = c.args.engine.now.store in
     of_lent (λ l. IsTrue g.D.Disk.tells → LeavesInTurn g.D.Disk.seen g.D.Disk.now g.D.Disk.leaves s.lent s.next_file l.next_file s.known l.device) _ lent same (λ t.
     subst (λ o. LeavesInTurn g.D.Disk.seen g.D.Disk.now g.D.Disk.leaves o s.next_file c.args.lent.next_file s.known c.publish-answer.new.disk) (sym (c.requires.meta.1 ∙ c.in-Some.is)) (rw (← c.requires.device) (c.publish-answer.ensures.any_moment t)))
+
+pub returns-in-Ok-clause-upkeep : goal.returns-in-Ok-clause-upkeep
+returns-in-Ok-clause-upkeep g c = c.store_home.ensures.upkeep (inr c.requires.free)
+
+pub returns-in-Err-Memory-clause-upkeep : goal.returns-in-Err-Memory-clause-upkeep
+returns-in-Err-Memory-clause-upkeep g c = c.store_home-in-Err-Memory.ensures.upkeep (inr c.requires.free)
+
+pub returns-in-Err-Fault-clause-upkeep : goal.returns-in-Err-Fault-clause-upkeep
+returns-in-Err-Fault-clause-upkeep g c = ap (λ v. v.upkeep) (c.stop.ensures.store_home _ refl)

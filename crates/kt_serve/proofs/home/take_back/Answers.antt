@@ -1,7 +1,7 @@
 use Rattle.std.proofs.Common.{Some, sym, ap, ◌∙◌}
 use Rattle.kt_serve.proofs.Stills.{went_out, still_tablet, no_log}
 use Rattle.kt_serve.proofs.Homes.{its_holder}
-use Rattle.kt_serve.proofs.Rests.{store_stays}
+use Rattle.kt_serve.proofs.Rests.{upkeep_stays}
 use Rattle.kt_serve.proofs.home.take_back.Goals as goal
 
 pub log_back-requires : goal.log_back-requires
@@ -21,5 +21,5 @@ returns-clause-still g c = still_tablet _ _ _ _ c.enter-engine.result c.log_back
 pub returns-clause-home : goal.returns-clause-home
 returns-clause-home g c = no_log _ c.log_back.new.self _ c.leave.ensures.told.1 (ap (λ v. v.log.holder) c.log_back.ensures.home)
 
-pub returns-clause-rests : goal.returns-clause-rests
-returns-clause-rests g c = store_stays _ _ c.enter-engine.result c.log_back.new.self _ _ c.enter-engine.ensures.part.0 c.leave.ensures.told.1 (c.leave.ensures.pass.0.1 ∙ c.enter-engine.ensures.pass.0.1) (ap (λ v. v.store) c.log_back.ensures.home)
+pub returns-clause-upkeep : goal.returns-clause-upkeep
+returns-clause-upkeep g c = upkeep_stays _ _ c.enter-engine.result c.log_back.new.self _ _ c.enter-engine.ensures.part.0 c.leave.ensures.told.1 (c.leave.ensures.pass.0.1 ∙ c.enter-engine.ensures.pass.0.1) (ap (λ v. v.store) c.log_back.ensures.home) (ap (λ v. v.upkeep) c.log_back.ensures.home)

@@ -9,7 +9,7 @@ use Rattle.kt_engine.specs.Visits.{IsVisit}
 use Rattle.kt_serve.proofs.Failed.{of_batch, no_store}
 use Rattle.kt_serve.proofs.Stills.{still_stopped, no_log, stop_added, stopped_once}
 use Rattle.kt_serve.proofs.Homes.{its_holder, broken_from}
-use Rattle.kt_serve.proofs.Rests.{store_stays}
+use Rattle.kt_serve.proofs.Rests.{upkeep_stays}
 use Rattle.kt_serve.proofs.home.take_broken.Goals as goal
 
 pub stop-requires : goal.stop-requires
@@ -55,5 +55,5 @@ leave-requires-clause-parts g c =
     let visit : IsVisit c.number-by.result c.enter-engine.result c.stop.new.self = c.stop.ensures.visit in
     search (rules, visit.parts)
 
-pub returns-clause-rests : goal.returns-clause-rests
-returns-clause-rests g c = store_stays _ _ c.enter-engine.result c.stop.new.self _ _ c.enter-engine.ensures.part.0 c.leave.ensures.told.1 (c.leave.ensures.pass.0.1 ∙ c.enter-engine.ensures.pass.0.1) (ap (λ v. v.store) (c.stop.ensures.home _ refl))
+pub returns-clause-upkeep : goal.returns-clause-upkeep
+returns-clause-upkeep g c = upkeep_stays _ _ c.enter-engine.result c.stop.new.self _ _ c.enter-engine.ensures.part.0 c.leave.ensures.told.1 (c.leave.ensures.pass.0.1 ∙ c.enter-engine.ensures.pass.0.1) (ap (λ v. v.store) (c.stop.ensures.home _ refl)) (ap (λ v. v.upkeep) (c.stop.ensures.home _ refl))

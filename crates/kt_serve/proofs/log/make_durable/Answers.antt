@@ -1,6 +1,6 @@
 use Rattle.std.proofs.Common.{rules, ap, ◌∙◌}
 use Rattle.kt_serve.proofs.Stills.{still_after, still_rests, no_log_rests, aloft_after}
-use Rattle.kt_serve.proofs.Rests.{store_same}
+use Rattle.kt_serve.proofs.Rests.{upkeep_same, upkeep_then}
 use Rattle.kt_serve.proofs.log.make_durable.Goals as goal
 
 pub ask_log-requires-clause-aloft : goal.ask_log-requires-clause-aloft
@@ -18,7 +18,7 @@ loop-preserved g c = (
   search rules,
   no_log_rests _ _ (ap (λ m. m.0.part) c.rest.ensures.2) (rw c.in-Wait.is at c.ask_log.ensures.turn),
   still_rests _ _ _ _ _ _ _ (ap (λ m. m.0.part) c.rest.ensures.2) (ap (λ m. m.0.seen) c.rest.ensures.2) (still_after _ _ _ _ _ _ _ _ c.loop.invariant.0.0.1 c.loop.invariant.2 c.ask_log.ensures.still),
-  λ rests. store_same _ _ (ap (λ m. m.0.part) c.rest.ensures.2) (c.ask_log.ensures.rests (c.loop.invariant.3 rests)),
+  upkeep_then _ _ _ (upkeep_then _ _ _ c.loop.invariant.3 c.ask_log.ensures.upkeep) (upkeep_same _ _ (ap (λ m. m.0.part) c.rest.ensures.2)),
 )
 
 pub returns-in-Stopped-clause-still : goal.returns-in-Stopped-clause-still
@@ -27,14 +27,14 @@ returns-in-Stopped-clause-still g c = still_after _ _ _ _ _ _ _ _ c.loop.invaria
 pub returns-in-Memory-clause-still : goal.returns-in-Memory-clause-still
 returns-in-Memory-clause-still g c = still_after _ _ _ _ _ _ _ _ c.loop.invariant.0.0.1 c.loop.invariant.2 c.ask_log.ensures.still
 
-pub returns-in-Durable-clause-rests : goal.returns-in-Durable-clause-rests
-returns-in-Durable-clause-rests g c = λ rests. c.ask_log.ensures.rests (c.loop.invariant.3 rests)
+pub returns-in-Durable-clause-upkeep : goal.returns-in-Durable-clause-upkeep
+returns-in-Durable-clause-upkeep g c = upkeep_then _ _ _ c.loop.invariant.3 c.ask_log.ensures.upkeep
 
-pub returns-in-Stopped-clause-rests : goal.returns-in-Stopped-clause-rests
-returns-in-Stopped-clause-rests g c = λ rests. c.ask_log.ensures.rests (c.loop.invariant.3 rests)
+pub returns-in-Stopped-clause-upkeep : goal.returns-in-Stopped-clause-upkeep
+returns-in-Stopped-clause-upkeep g c = upkeep_then _ _ _ c.loop.invariant.3 c.ask_log.ensures.upkeep
 
-pub returns-in-Memory-clause-rests : goal.returns-in-Memory-clause-rests
-returns-in-Memory-clause-rests g c = λ rests. c.ask_log.ensures.rests (c.loop.invariant.3 rests)
+pub returns-in-Memory-clause-upkeep : goal.returns-in-Memory-clause-upkeep
+returns-in-Memory-clause-upkeep g c = upkeep_then _ _ _ c.loop.invariant.3 c.ask_log.ensures.upkeep
 
-pub returns-in-Append-clause-rests : goal.returns-in-Append-clause-rests
-returns-in-Append-clause-rests g c = λ rests. c.bring_home.ensures.rests (c.ask_log.ensures.rests (c.loop.invariant.3 rests))
+pub returns-in-Append-clause-upkeep : goal.returns-in-Append-clause-upkeep
+returns-in-Append-clause-upkeep g c = upkeep_then _ _ _ (upkeep_then _ _ _ c.loop.invariant.3 c.ask_log.ensures.upkeep) c.bring_home.ensures.upkeep

@@ -4,7 +4,7 @@ use Rattle.kt_serve.proofs.Applies.{may_apply, applies_one, applies_none, applie
 use Rattle.kt_serve.proofs.rows.apply_part.Goals as goal
 
 pub loop-row-init : goal.loop-row-init
-loop-row-init g c = (applies_none c.args.engine.now c.args.by c.args.at, c.requires.goes, refl, refl)
+loop-row-init g c = (applies_none c.args.engine.now c.args.by c.args.at, c.requires.goes, refl, refl, refl)
 
 pub apply_row-requires-clause-next : goal.apply_row-requires-clause-next
 apply_row-requires-clause-next g c =
@@ -23,6 +23,7 @@ loop-row-preserved g c = (
   ap (λ v. v.stopped) c.in-Ok.ensures.applied.core ∙ c.loop-row.invariant.1,
   ap (λ v. v.tablet.places) c.apply_row.ensures.beside ∙ c.loop-row.invariant.2,
   ap (λ v. v.store) c.apply_row.ensures.beside ∙ c.loop-row.invariant.3,
+  ap (λ v. v.upkeep) c.apply_row.ensures.beside ∙ c.loop-row.invariant.4,
 )
 
 pub returns-clause-applied : goal.returns-clause-applied

@@ -5,6 +5,7 @@ use Rattle.kt_seatlock.specs.Passes.{number, seen, part}
 use Rattle.kt_serve.proofs.Stills.{going_after, still_after, still_going}
 use Rattle.kt_serve.proofs.Commands.{after_going}
 use Rattle.kt_serve.proofs.Applies.{flying_as, flying_still, flying_after}
+use Rattle.kt_serve.proofs.Rests.{upkeep_then}
 use Rattle.kt_serve.proofs.rows.finish_write.Goals as goal
 
 on_err : {A E : Type 0} (r : Result A E) {P : Type 0} → P → OnErr r P
@@ -27,7 +28,7 @@ loop-init g c = (
   still_going _ _ _ _ _ c.make_durable.ensures.still,
   λ i f. flying_still _ i 0 c.args.write.now _ _ _ _ c.make_durable.ensures.still f,
   omega arith,
-  c.make_durable.ensures.rests,
+  c.make_durable.ensures.upkeep,
 )
 
 pub bring_on-requires-clause-flying : goal.bring_on-requires-clause-flying
@@ -42,11 +43,11 @@ loop-preserved-in-Applied g c = let a = rw c.in-Applied.is at c.bring_on.ensures
   going_after _ _ _ _ _ _ _ _ c.loop.invariant.0.0.1 c.loop.invariant.2 a.0,
   λ i f. flying_after (number c.args.pass.now) (number c.loop.pass) i c.loop.at c.in-Applied.to c.args.write.now (part c.loop.pass) (part c.bring_on.new.pass) c.loop.invariant.0.0.1 (a.1 i) (c.loop.invariant.3 i f),
   omega (arith, a.3),
-  λ rests. c.bring_on.ensures.rests (c.loop.invariant.5 rests),
+  upkeep_then _ _ _ c.loop.invariant.5 c.bring_on.ensures.upkeep,
 )
 
-pub returns-in-Ended-clause-rests : goal.returns-in-Ended-clause-rests
-returns-in-Ended-clause-rests g c = λ rests. c.bring_on.ensures.rests (c.loop.invariant.5 rests)
+pub returns-in-Ended-clause-upkeep : goal.returns-in-Ended-clause-upkeep
+returns-in-Ended-clause-upkeep g c = upkeep_then _ _ _ c.loop.invariant.5 c.bring_on.ensures.upkeep
 
 pub returns-in-Ended-clause-root : goal.returns-in-Ended-clause-root
 returns-in-Ended-clause-root g c = let a = rw c.in-Ended.is at c.bring_on.ensures.applied in
@@ -74,11 +75,11 @@ loop-preserved g c =
       going_after _ _ _ _ _ _ _ _ c.loop.invariant.0.0.1 c.loop.invariant.2 (still_going _ _ _ _ _ both),
       λ i f. flying_after (number c.args.pass.now) (number c.loop.pass) i c.loop.at c.loop.at c.args.write.now (part c.loop.pass) (part c.make_durable-in-Early.new.pass) c.loop.invariant.0.0.1 (flying_still _ i c.loop.at c.args.write.now _ _ _ _ both) (c.loop.invariant.3 i f),
       c.loop.invariant.4,
-      λ rests. c.make_durable-in-Early.ensures.rests (c.bring_on.ensures.rests (c.loop.invariant.5 rests)),
+      upkeep_then _ _ _ (upkeep_then _ _ _ c.loop.invariant.5 c.bring_on.ensures.upkeep) c.make_durable-in-Early.ensures.upkeep,
     )
 
-pub returns-in_err-make_durable-in-Early-clause-rests : goal.returns-in_err-make_durable-in-Early-clause-rests
-returns-in_err-make_durable-in-Early-clause-rests g c = λ rests. c.make_durable-in-Early.ensures.rests (c.bring_on.ensures.rests (c.loop.invariant.5 rests))
+pub returns-in_err-make_durable-in-Early-clause-upkeep : goal.returns-in_err-make_durable-in-Early-clause-upkeep
+returns-in_err-make_durable-in-Early-clause-upkeep g c = upkeep_then _ _ _ (upkeep_then _ _ _ c.loop.invariant.5 c.bring_on.ensures.upkeep) c.make_durable-in-Early.ensures.upkeep
 
 pub returns-in_err-make_durable-in-Early-clause-root : goal.returns-in_err-make_durable-in-Early-clause-root
 returns-in_err-make_durable-in-Early-clause-root g c =
@@ -90,8 +91,8 @@ returns-in_err-make_durable-in-Early-clause-going g c =
     let both = still_after (number c.loop.pass) (number c.bring_on.new.pass) (part c.loop.pass) (part c.bring_on.new.pass) (part c.make_durable-in-Early.new.pass) (seen c.loop.pass) (seen c.bring_on.new.pass) (seen c.make_durable-in-Early.new.pass) c.bring_on.ensures.pass.0.1 (rw c.in-Early.is at c.bring_on.ensures.applied) c.make_durable-in-Early.ensures.still in
     on_err c.from_residual-in_err-make_durable-in-Early.result (going_after _ _ _ _ _ _ _ _ c.loop.invariant.0.0.1 c.loop.invariant.2 (still_going _ _ _ _ _ both))
 
-pub returns-in-Stopped-clause-rests : goal.returns-in-Stopped-clause-rests
-returns-in-Stopped-clause-rests g c = λ rests. c.bring_on.ensures.rests (c.loop.invariant.5 rests)
+pub returns-in-Stopped-clause-upkeep : goal.returns-in-Stopped-clause-upkeep
+returns-in-Stopped-clause-upkeep g c = upkeep_then _ _ _ c.loop.invariant.5 c.bring_on.ensures.upkeep
 
 pub returns-in-Stopped-clause-root : goal.returns-in-Stopped-clause-root
 returns-in-Stopped-clause-root g c = let a = rw c.in-Stopped.is at c.bring_on.ensures.applied in

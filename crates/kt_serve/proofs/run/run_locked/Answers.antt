@@ -14,7 +14,7 @@ use Rattle.kt_serve.proofs.Begins.{root_at}
 use Rattle.kt_serve.proofs.Lists.{written_back, length_take}
 use Rattle.kt_serve.proofs.Joining.{are_back, kept_each}
 use Rattle.kt_serve.proofs.Rests.{store_rests}
-use Rattle.kt_serve.proofs.Runs.{new_part, idle_part, may_run, same_part, none_told, each_ended, back_each, home_again, store_again, all_after}
+use Rattle.kt_serve.proofs.Runs.{new_part, idle_part, may_run, same_part, none_told, each_ended, back_each, home_again, store_again, all_after, each_rounds}
 use Rattle.kt_serve.proofs.run.run_locked.Goals as goal
 
 pub run_all-requires-clause-enters : goal.run_all-requires-clause-enters
@@ -116,3 +116,20 @@ returns-clause-ended g c =
           (λ j q e. (kept_each Kept c.run_all.new.places (joined c.split_all.new.pass) kept j q e).1);
       others = λ s none. subst (λ r. TellsOwn r s [] y.tablet.core.trail) root (none_told y c.args.plan.now s c.close-closing.ensures.told.2.stands (ap (λ r. r.work.plan) root ∙ c.requires.plan.0) none);
     }) c.close-closing.ensures.told.4
+
+pub returns-clause-rounds : goal.returns-clause-rounds
+returns-clause-rounds g c =
+    let Came = CameTo g.G.Gate.came c.args.gate.now in
+    let y = c.close-closing.ensures.told.0 in
+    let told = c.close-closing.ensures.told.1 in
+    let same : length c.run_all.new.places ≡ length c.split_all.new.places.items = c.run_all.auto.places ∙ ap length c.deref_mut.ensures.value in
+    let new = written_back c.split_all.new.places.items c.run_all.new.places c.split_all.new.places.len (search rules) same in
+    let count : length c.deref_mut.result.now ≡ length c.args.plan.now + c.args.workers = search rules in
+    let all = c.join_all-ends.ensures.ends ∙ ap (map (λ p. p.end)) new in
+    let Kept : Joined Event _ → Type 0 = λ q. (q.part ≡ Some (part_in y q.number)) × Follows session_of q.number q.seen y.tablet.core.trail in
+    let kept = subst (Each Kept) (c.join_all-ends.ensures.joined ∙ ap (λ l. taken l (joined c.split_all.new.pass)) new) told.kept in
+    each_rounds Came y c.close-closing.result.engine c.args.plan.now c.deref_mut.result.now c.run_all.new.places _ _ (omega (arith, count)) (search rules) (c.truncate.ensures.items ∙ ap (take _) all)
+    (λ j p e. let new = c.split_all.ensures.each j p (ap (λ l. slice_get l j) (sym c.deref_mut.ensures.value) ∙ e) in new.number_is ∙ omega (arith, c.fill.ensures.pass.3, c.requires.own.2))
+    c.run_all.ensures
+    (λ j q e. (kept_each Kept c.run_all.new.places (joined c.split_all.new.pass) kept j q e).0)
+    c.close-closing.ensures.told.5

@@ -8,5 +8,6 @@ returns-else-at-plan g c = record {
   left = c.work_and_leave.ensures.left;
   home = c.work_and_leave.ensures.home;
   store = c.work_and_leave.ensures.rests;
+  none = c.work_and_leave.ensures.none;
   run = λ commands e. let within = slice_get_within c.args.plan.now c.args.at commands e in absurd (omega (arith, within, c.if-at-plan.false));
 }

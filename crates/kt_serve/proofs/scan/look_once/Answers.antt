@@ -3,7 +3,7 @@ use Rattle.kt_serve.proofs.Begins.{same_root}
 use Rattle.kt_serve.proofs.Commands.{free_log}
 use Rattle.kt_serve.proofs.Ends.{log_stays}
 use Rattle.kt_serve.proofs.Scans.{may_look, after_look}
-use Rattle.kt_serve.proofs.Rests.{store_stays}
+use Rattle.kt_serve.proofs.Rests.{upkeep_stays}
 use Rattle.kt_serve.proofs.scan.look_once.Goals as goal
 
 pub look-looked-requires : goal.look-looked-requires
@@ -20,5 +20,5 @@ returns-clause-looked g c = after_look _ _ _ _ c.enter-engine.result c.look-look
     c.enter-engine.ensures.part.0 c.leave.ensures.told.1 (c.leave.ensures.pass.0.1 ∙ c.enter-engine.ensures.pass.0.1) c.number-by.ensures c.requires.next c.enter-engine.ensures.trail c.leave.ensures.told.0
     c.standing.ensures.stops c.look-looked.ensures.looked (ap (λ v. v.log) c.look-looked.ensures.beside) c.look-looked.ensures.same c.look-looked.ensures.goes
 
-pub returns-clause-rests : goal.returns-clause-rests
-returns-clause-rests g c = store_stays _ _ c.enter-engine.result c.look-looked.new.self _ _ c.enter-engine.ensures.part.0 c.leave.ensures.told.1 (c.leave.ensures.pass.0.1 ∙ c.enter-engine.ensures.pass.0.1) (ap (λ v. v.store) c.look-looked.ensures.beside)
+pub returns-clause-upkeep : goal.returns-clause-upkeep
+returns-clause-upkeep g c = upkeep_stays _ _ c.enter-engine.result c.look-looked.new.self _ _ c.enter-engine.ensures.part.0 c.leave.ensures.told.1 (c.leave.ensures.pass.0.1 ∙ c.enter-engine.ensures.pass.0.1) (ap (λ v. v.store) c.look-looked.ensures.beside) (ap (λ v. v.upkeep) c.look-looked.ensures.beside)

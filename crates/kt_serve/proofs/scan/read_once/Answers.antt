@@ -4,7 +4,7 @@ use Rattle.kt_serve.specs.Scans.{AfterRead, changes}
 use Rattle.kt_serve.proofs.Begins.{same_root}
 use Rattle.kt_serve.proofs.Open.{is_open}
 use Rattle.kt_serve.proofs.Points.{never_written}
-use Rattle.kt_serve.proofs.Rests.{store_stays}
+use Rattle.kt_serve.proofs.Rests.{upkeep_stays}
 use Rattle.kt_serve.proofs.Scans.{look_turn, may_snapshot, waits_same, look_stays, after_read}
 use Rattle.kt_serve.proofs.scan.read_once.Goals as goal
 
@@ -32,5 +32,5 @@ returns-clause-open g c = is_open _ c.enter-engine.result _ c.args.index c.requi
 pub returns-clause-unwritten : goal.returns-clause-unwritten
 returns-clause-unwritten g c = λ ts outcomes e. never_written c.snapshot-read.result ts outcomes (sym c.turn_of-turn.ensures ∙ e)
 
-pub returns-clause-rests : goal.returns-clause-rests
-returns-clause-rests g c = store_stays _ _ c.enter-engine.result c.snapshot-read.new.self _ _ c.enter-engine.ensures.part.0 c.leave_as.ensures.told.1 (c.leave_as.ensures.pass.0.1 ∙ c.enter-engine.ensures.pass.0.1) (ap (λ v. v.store) c.snapshot-read.ensures.beside)
+pub returns-clause-upkeep : goal.returns-clause-upkeep
+returns-clause-upkeep g c = upkeep_stays _ _ c.enter-engine.result c.snapshot-read.new.self _ _ c.enter-engine.ensures.part.0 c.leave_as.ensures.told.1 (c.leave_as.ensures.pass.0.1 ∙ c.enter-engine.ensures.pass.0.1) (ap (λ v. v.store) c.snapshot-read.ensures.beside) (ap (λ v. v.upkeep) c.snapshot-read.ensures.beside)

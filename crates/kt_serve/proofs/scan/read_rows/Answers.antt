@@ -4,7 +4,7 @@ use Rattle.kt_seatlock.specs.Passes.{number, part, seen}
 use Rattle.kt_serve.proofs.Commands.{command_after, going_rests, going_on, after_going}
 use Rattle.kt_serve.proofs.Scans.{scan_at, look_rests, going_lacks, snapped_lacks, snapped_answers}
 use Rattle.kt_serve.proofs.Open.{open_before}
-use Rattle.kt_serve.proofs.Rests.{store_same}
+use Rattle.kt_serve.proofs.Rests.{upkeep_same, upkeep_then}
 use Rattle.kt_serve.proofs.scan.read_rows.Goals as goal
 
 pub read_once-requires-clause-scan : goal.read_once-requires-clause-scan
@@ -42,7 +42,7 @@ loop-preserved g c = let b = rw c.in-Wait.is at c.read_once.ensures.read in (
   search rules,
   look_rests _ _ _ _ (ap (λ m. m.0.part) c.rest.ensures.2) b.0,
   going_rests _ _ _ _ _ _ _ (ap (λ m. m.0.part) c.rest.ensures.2) (ap (λ m. m.0.seen) c.rest.ensures.2) (going_on _ _ _ _ _ _ _ _ c.loop.invariant.0.0.1 c.loop.invariant.2 c.read_once.ensures.root b.1),
-  λ rests. store_same _ _ (ap (λ m. m.0.part) c.rest.ensures.2) (c.read_once.ensures.rests (c.loop.invariant.3 rests)),
+  upkeep_then _ _ _ (upkeep_then _ _ _ c.loop.invariant.3 c.read_once.ensures.upkeep) (upkeep_same _ _ (ap (λ m. m.0.part) c.rest.ensures.2)),
 )
 
 pub returns-in-Memory-clause-root : goal.returns-in-Memory-clause-root
@@ -58,14 +58,14 @@ returns-in-Read-clause-open g c = open_before (number c.args.pass.now) (number c
 pub returns-in-Told-clause-open : goal.returns-in-Told-clause-open
 returns-in-Told-clause-open g c = open_before (number c.args.pass.now) (number c.loop.pass) c.args.index (part c.args.pass.now) (part c.loop.pass) (seen c.args.pass.now) (seen c.loop.pass) c.loop.invariant.0.0.1 c.loop.invariant.2 c.read_once.ensures.open
 
-pub returns-in_err-rows-in-Read-clause-rests : goal.returns-in_err-rows-in-Read-clause-rests
-returns-in_err-rows-in-Read-clause-rests g c = λ rests. c.read_once.ensures.rests (c.loop.invariant.3 rests)
+pub returns-in_err-rows-in-Read-clause-upkeep : goal.returns-in_err-rows-in-Read-clause-upkeep
+returns-in_err-rows-in-Read-clause-upkeep g c = upkeep_then _ _ _ c.loop.invariant.3 c.read_once.ensures.upkeep
 
-pub returns-in-Read-clause-rests : goal.returns-in-Read-clause-rests
-returns-in-Read-clause-rests g c = λ rests. c.read_once.ensures.rests (c.loop.invariant.3 rests)
+pub returns-in-Read-clause-upkeep : goal.returns-in-Read-clause-upkeep
+returns-in-Read-clause-upkeep g c = upkeep_then _ _ _ c.loop.invariant.3 c.read_once.ensures.upkeep
 
-pub returns-in-Told-clause-rests : goal.returns-in-Told-clause-rests
-returns-in-Told-clause-rests g c = λ rests. c.read_once.ensures.rests (c.loop.invariant.3 rests)
+pub returns-in-Told-clause-upkeep : goal.returns-in-Told-clause-upkeep
+returns-in-Told-clause-upkeep g c = upkeep_then _ _ _ c.loop.invariant.3 c.read_once.ensures.upkeep
 
-pub returns-in-Memory-clause-rests : goal.returns-in-Memory-clause-rests
-returns-in-Memory-clause-rests g c = λ rests. c.read_once.ensures.rests (c.loop.invariant.3 rests)
+pub returns-in-Memory-clause-upkeep : goal.returns-in-Memory-clause-upkeep
+returns-in-Memory-clause-upkeep g c = upkeep_then _ _ _ c.loop.invariant.3 c.read_once.ensures.upkeep

@@ -1,67 +1,49 @@
-use Rattle.std.proofs.Common.{rules, ◌≡◌, Option, None, Some, Ok, Err, Result, ◌+◌, ap, sym, ◌∙◌, subst}
+use Rattle.std.proofs.Common.{◌≡◌, ℕ, zero, suc, [], Some, None, refl, sym, ap, subst, ◌∙◌, rules}
 use Rattle.kt_history.specs.Machine.{nth}
 use Rattle.kt_seatlock.specs.Passes.{number, part, seen}
 use Rattle.kt_serve.specs.Points.{CameTo}
-use Rattle.kt_serve.proofs.Begins.{some_is}
-use Rattle.kt_serve.proofs.Commands.{command_after}
-use Rattle.kt_serve.proofs.Points.{each_more}
-use Rattle.kt_serve.specs.declared.log.Halt.{Halt}
-use Rattle.kt_serve.specs.declared.log.Halt.TheVariants.{Memory}
 use Rattle.kt_serve.specs.Scans.{IsOn}
 use Rattle.kt_serve.proofs.Scans.{but_before}
-use Rattle.kt_serve.proofs.Tells.{at_command, on_root, tells_after, tells_before, tells_of, nth_at}
+use Rattle.kt_serve.proofs.Tells.{on_root, plan_after, still_tells, tells_after, tells_before, tells_of, none_in}
 use Rattle.kt_serve.proofs.session.run_session.Goals as goal
 
-abbrev halt_of : {A : Type 0} → Result A Halt → Option Halt
-halt_of (Ok a) = None
-halt_of (Err halt) = Some halt
+-- making room has left the session where it began
 
-ok_not : {A : Type 0} (a : A) (halt : Halt) → Ok a ≡ Err halt → ⊥
-ok_not a halt e = cc
+pub run_commands-requires-clause-on : goal.run_commands-requires-clause-on
+run_commands-requires-clause-on g c = on_root (λ root. IsOn c.args.schema.now root.work) c.requires.next.part _ _ c.requires.next.is c.clear_room.ensures.going.root c.requires.on
 
-pub take_next-requires-clause-on : goal.take_next-requires-clause-on
-take_next-requires-clause-on g c = on_root (λ root. IsOn c.args.schema.now root.work) c.requires.next.part _ _ c.requires.next.is c.loop-at.invariant.1 c.requires.on
+pub run_commands-requires-clause-plan : goal.run_commands-requires-clause-plan
+run_commands-requires-clause-plan g c = plan_after (number c.args.pass.now) (number c.clear_room.new.pass) c.args.commands.now c.requires.next.part _ _ c.requires.next.is c.clear_room.ensures.pass.0.1 c.clear_room.ensures.going.root c.requires.plan
 
-pub take_next-requires-clause-rests : goal.take_next-requires-clause-rests
-take_next-requires-clause-rests g c = c.loop-at.invariant.6
+pub run_commands-requires-clause-tells : goal.run_commands-requires-clause-tells
+run_commands-requires-clause-tells g c = tells_after (number c.args.pass.now) (number c.clear_room.new.pass) [] (seen c.clear_room.new.pass) c.requires.next.part _ _ c.requires.next.is c.clear_room.ensures.pass.0.1 c.clear_room.ensures.going.root
+    (still_tells (number c.args.pass.now) [] (seen c.args.pass.now) (seen c.clear_room.new.pass) (part c.args.pass.now) c.requires.tells c.clear_room.ensures.going.quiet)
 
-pub take_next-requires-clause-command : goal.take_next-requires-clause-command
-take_next-requires-clause-command g c = command_after _ _ (c.loop-at.at + 1) c.index-commands-at.result c.requires.next.part _ _ c.requires.next.is c.loop-at.invariant.0.0.1 c.loop-at.invariant.1
-    (at_command _ _ (c.loop-at.at + 1) c.args.commands.now c.index-commands-at.result c.requires.plan (nth_at c.args.commands.now c.loop-at.at c.index-commands-at.result c.loop-at-test.true c.index-commands-at.is))
+pub returns-in-Ok-clause-root : goal.returns-in-Ok-clause-root
+returns-in-Ok-clause-root g c = λ root h. c.run_commands.ensures.root root (c.clear_room.ensures.going.root root h)
 
-pub take_next-requires-clause-runs : goal.take_next-requires-clause-runs
-take_next-requires-clause-runs g c = c.requires.runs (c.loop-at.at + 1) c.index-commands-at.result (nth_at c.args.commands.now c.loop-at.at c.index-commands-at.result c.loop-at-test.true c.index-commands-at.is)
+pub returns-in-Ok-clause-tells : goal.returns-in-Ok-clause-tells
+returns-in-Ok-clause-tells g c = λ ne. tells_before (number c.args.pass.now) (number c.clear_room.new.pass) c.run_commands.result.replies (seen c.run_commands.new.pass) (part c.args.pass.now) (part c.clear_room.new.pass) c.clear_room.ensures.pass.0.1 c.clear_room.ensures.going.root (c.run_commands.ensures.tells ne)
 
-pub take_next-requires-clause-tells : goal.take_next-requires-clause-tells
-take_next-requires-clause-tells g c = tells_after (number c.args.pass.now) (number c.loop-at.pass) c.loop-at.replies.items (seen c.loop-at.pass) c.requires.next.part _ _ c.requires.next.is c.loop-at.invariant.0.0.1 c.loop-at.invariant.1 c.loop-at.invariant.4
+pub returns-in-Ok-clause-lost : goal.returns-in-Ok-clause-lost
+returns-in-Ok-clause-lost g c = λ e. but_before (number c.args.pass.now) (number c.clear_room.new.pass) c.run_commands.result.replies c.run_commands.result.replies (seen c.run_commands.new.pass) (part c.args.pass.now) (part c.clear_room.new.pass) c.clear_room.ensures.pass.0.1 refl c.clear_room.ensures.going.root (c.run_commands.ensures.lost e)
+
+pub returns-in-Ok-clause-none : goal.returns-in-Ok-clause-none
+returns-in-Ok-clause-none g c = λ ne h. c.run_commands.ensures.none ne (c.in-Ok.ensures.none h)
+
+pub returns-in-Ok-clause-points : goal.returns-in-Ok-clause-points
+returns-in-Ok-clause-points g c = λ k reply at. subst (λ n. CameTo g.G.Gate.came c.args.gate.now n k reply) c.clear_room.ensures.pass.0.1 (c.run_commands.ensures.points k reply at)
+
+-- or it has stopped
 
 pub returns-in-Err-clause-root : goal.returns-in-Err-clause-root
-returns-in-Err-clause-root g c = λ root h. c.take_next.ensures.root root (c.loop-at.invariant.1 root h)
+returns-in-Err-clause-root g c = c.clear_room.ensures.going.root
 
 pub returns-in-Err-clause-tells : goal.returns-in-Err-clause-tells
-returns-in-Err-clause-tells g c = λ ne. tells_of (number c.args.pass.now) c.take_next.new.replies.items _ (seen c.take_next.new.pass) (part c.args.pass.now) c.of.ensures
-    (tells_before (number c.args.pass.now) (number c.loop-at.pass) c.take_next.new.replies.items (seen c.take_next.new.pass) (part c.args.pass.now) (part c.loop-at.pass) c.loop-at.invariant.0.0.1 c.loop-at.invariant.1 (c.in-Err.ensures.tells (λ e. ne (ap halt_of e))))
+returns-in-Err-clause-tells g c = λ ne. tells_of (number c.args.pass.now) [] _ (seen c.clear_room.new.pass) (part c.args.pass.now) c.none.ensures (still_tells (number c.args.pass.now) [] (seen c.args.pass.now) (seen c.clear_room.new.pass) (part c.args.pass.now) c.requires.tells c.clear_room.ensures.going.quiet)
 
-pub returns-in-Err-clause-lost : goal.returns-in-Err-clause-lost
-returns-in-Err-clause-lost g c = λ e. but_before (number c.args.pass.now) (number c.loop-at.pass) c.take_next.new.replies.items _ (seen c.take_next.new.pass) (part c.args.pass.now) (part c.loop-at.pass) c.loop-at.invariant.0.0.1 c.of.ensures c.loop-at.invariant.1 (c.in-Err.ensures.lost (ap (λ h. Err h) (some_is c.in-Err.halt Memory e)))
+pub returns-in-Err-clause-none : goal.returns-in-Err-clause-none
+returns-in-Err-clause-none g c = λ ne. absurd (ne refl)
 
 pub returns-in-Err-clause-points : goal.returns-in-Err-clause-points
-returns-in-Err-clause-points g c = λ k reply at. c.loop-at.invariant.5 k reply (ap (λ l. nth l k) (sym c.in-Err.ensures.same ∙ sym c.of.ensures) ∙ at)
-
-pub loop-at-preserved : goal.loop-at-preserved
-loop-at-preserved g c = (
-  search rules,
-  λ root h. c.take_next.ensures.root root (c.loop-at.invariant.1 root h),
-  c.in-Ok.ensures.next,
-  c.in-Ok.ensures.more ∙ ap (λ n. n + 1) c.loop-at.invariant.3,
-  tells_before (number c.args.pass.now) (number c.loop-at.pass) c.take_next.new.replies.items (seen c.take_next.new.pass) (part c.args.pass.now) (part c.loop-at.pass) c.loop-at.invariant.0.0.1 c.loop-at.invariant.1 (c.in-Ok.ensures.tells (ok_not _ Memory)),
-  each_more (λ k reply. CameTo g.G.Gate.came c.args.gate.now (number c.args.pass.now) k reply) c.loop-at.replies.items c.take_next.new.replies.items c.in-Ok.ensures.points.0 (c.loop-at.at + 1) (ap (λ n. n + 1) (sym c.loop-at.invariant.3)) c.in-Ok.ensures.points.1 c.loop-at.invariant.5
-      (subst (λ n. CameTo g.G.Gate.came c.args.gate.now n (c.loop-at.at + 1) c.in-Ok.ensures.points.0) c.loop-at.invariant.0.0.1 c.in-Ok.ensures.points.2),
-  c.take_next.ensures.rests,
-)
-
-pub returns-clause-tells : goal.returns-clause-tells
-returns-clause-tells g c = λ _. tells_of (number c.args.pass.now) c.loop-at.replies.items _ (seen c.loop-at.pass) (part c.args.pass.now) c.of-2.ensures c.loop-at.invariant.4
-
-pub returns-clause-points : goal.returns-clause-points
-returns-clause-points g c = λ k reply at. c.loop-at.invariant.5 k reply (ap (λ l. nth l k) (sym c.of-2.ensures) ∙ at)
+returns-in-Err-clause-points g c = λ k reply at. absurd (none_in k reply (ap (λ l. nth l k) (sym c.none.ensures) ∙ at))

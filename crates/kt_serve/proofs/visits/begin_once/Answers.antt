@@ -1,7 +1,7 @@
 use Rattle.std.proofs.Common.{Some, None, sym, ap, ◌∙◌}
 use Rattle.kt_serve.proofs.Begins.{may_begin, same_root, begun_after, free_turn}
 use Rattle.kt_serve.proofs.Open.{is_open}
-use Rattle.kt_serve.proofs.Rests.{store_stays}
+use Rattle.kt_serve.proofs.Rests.{upkeep_stays}
 use Rattle.kt_serve.proofs.visits.begin_once.Goals as goal
 
 pub begin_draft-begun-requires : goal.begin_draft-begun-requires
@@ -21,5 +21,5 @@ returns-clause-begun g c = begun_after _ _ _ _ c.enter-engine.result c.begin_dra
 pub returns-clause-open : goal.returns-clause-open
 returns-clause-open g c = is_open _ c.enter-engine.result _ c.args.index None _ g.C.Clock.readings c.enter-engine.ensures.part.0 (free_turn _ _ c.enter-engine.result _ c.requires.next c.enter-engine.ensures.part.0) c.enter-engine.ensures.trail c.standing.ensures.sound
 
-pub returns-clause-rests : goal.returns-clause-rests
-returns-clause-rests g c = store_stays _ _ c.enter-engine.result c.begin_draft-begun.new.self _ _ c.enter-engine.ensures.part.0 c.leave_as.ensures.told.1 (c.leave_as.ensures.pass.0.1 ∙ c.enter-engine.ensures.pass.0.1) (ap (λ v. v.store) c.begin_draft-begun.ensures.beside)
+pub returns-clause-upkeep : goal.returns-clause-upkeep
+returns-clause-upkeep g c = upkeep_stays _ _ c.enter-engine.result c.begin_draft-begun.new.self _ _ c.enter-engine.ensures.part.0 c.leave_as.ensures.told.1 (c.leave_as.ensures.pass.0.1 ∙ c.enter-engine.ensures.pass.0.1) (ap (λ v. v.store) c.begin_draft-begun.ensures.beside) (ap (λ v. v.upkeep) c.begin_draft-begun.ensures.beside)

@@ -5,7 +5,7 @@ use Rattle.kt_serve.proofs.Open.{is_open}
 use Rattle.kt_serve.proofs.Stills.{still_tablet, still_going}
 use Rattle.kt_serve.proofs.Commands.{free_log}
 use Rattle.kt_serve.proofs.Ends.{after_stop, log_stays}
-use Rattle.kt_serve.proofs.Rests.{store_stays}
+use Rattle.kt_serve.proofs.Rests.{upkeep_stays}
 use Rattle.kt_serve.proofs.visits.mark_once.Goals as goal
 
 pub mark-marked-requires : goal.mark-marked-requires
@@ -39,11 +39,11 @@ returns-in-Ok-clause-open g c = is_open _ c.enter-engine.result _ c.args.index N
 pub returns-in-Err-Stopped-clause-open : goal.returns-in-Err-Stopped-clause-open
 returns-in-Err-Stopped-clause-open g c = is_open _ c.enter-engine.result _ c.args.index None _ g.C.Clock.readings c.enter-engine.ensures.part.0 (free_turn _ _ c.enter-engine.result _ c.requires.next c.enter-engine.ensures.part.0) c.enter-engine.ensures.trail c.standing.ensures.sound
 
-pub returns-in-Ok-clause-rests : goal.returns-in-Ok-clause-rests
-returns-in-Ok-clause-rests g c = store_stays _ _ c.enter-engine.result c.mark-marked.new.self _ _ c.enter-engine.ensures.part.0 c.leave.ensures.told.1 (c.leave.ensures.pass.0.1 ∙ c.enter-engine.ensures.pass.0.1) (ap (λ v. v.store) c.mark-marked.ensures.beside)
+pub returns-in-Ok-clause-upkeep : goal.returns-in-Ok-clause-upkeep
+returns-in-Ok-clause-upkeep g c = upkeep_stays _ _ c.enter-engine.result c.mark-marked.new.self _ _ c.enter-engine.ensures.part.0 c.leave.ensures.told.1 (c.leave.ensures.pass.0.1 ∙ c.enter-engine.ensures.pass.0.1) (ap (λ v. v.store) c.mark-marked.ensures.beside) (ap (λ v. v.upkeep) c.mark-marked.ensures.beside)
 
-pub returns-in-Err-Stopped-clause-rests : goal.returns-in-Err-Stopped-clause-rests
-returns-in-Err-Stopped-clause-rests g c = store_stays _ _ c.enter-engine.result c.mark-marked.new.self _ _ c.enter-engine.ensures.part.0 c.leave.ensures.told.1 (c.leave.ensures.pass.0.1 ∙ c.enter-engine.ensures.pass.0.1) (ap (λ v. v.store) c.mark-marked.ensures.beside)
+pub returns-in-Err-Stopped-clause-upkeep : goal.returns-in-Err-Stopped-clause-upkeep
+returns-in-Err-Stopped-clause-upkeep g c = upkeep_stays _ _ c.enter-engine.result c.mark-marked.new.self _ _ c.enter-engine.ensures.part.0 c.leave.ensures.told.1 (c.leave.ensures.pass.0.1 ∙ c.enter-engine.ensures.pass.0.1) (ap (λ v. v.store) c.mark-marked.ensures.beside) (ap (λ v. v.upkeep) c.mark-marked.ensures.beside)
 
-pub returns-in-Err-Memory-clause-rests : goal.returns-in-Err-Memory-clause-rests
-returns-in-Err-Memory-clause-rests g c = store_stays _ _ c.enter-engine.result c.mark-marked.new.self _ _ c.enter-engine.ensures.part.0 c.leave.ensures.told.1 (c.leave.ensures.pass.0.1 ∙ c.enter-engine.ensures.pass.0.1) (ap (λ v. v.store) c.mark-marked.ensures.beside)
+pub returns-in-Err-Memory-clause-upkeep : goal.returns-in-Err-Memory-clause-upkeep
+returns-in-Err-Memory-clause-upkeep g c = upkeep_stays _ _ c.enter-engine.result c.mark-marked.new.self _ _ c.enter-engine.ensures.part.0 c.leave.ensures.told.1 (c.leave.ensures.pass.0.1 ∙ c.enter-engine.ensures.pass.0.1) (ap (λ v. v.store) c.mark-marked.ensures.beside) (ap (λ v. v.upkeep) c.mark-marked.ensures.beside)

@@ -1,6 +1,6 @@
 use Rattle.kt_seatlock.specs.Passes.{number, part, seen}
 use Rattle.kt_serve.proofs.Maintained.{still_goes, still_free}
-use Rattle.kt_serve.proofs.Rests.{no_device, device_rests}
+use Rattle.kt_serve.proofs.Rests.{no_device, device_rests, ok_keeps}
 use Rattle.kt_serve.proofs.visits.run_for_room.Goals as goal
 
 pub run-requires-clause-rests : goal.run-requires-clause-rests
@@ -14,3 +14,6 @@ returns-clause-next g c = still_free (part c.args.pass.now) (part c.run.new.pass
 
 pub returns-clause-going : goal.returns-clause-going
 returns-clause-going g c = still_goes (number c.args.pass.now) (part c.args.pass.now) (part c.run.new.pass) (seen c.args.pass.now) (seen c.run.new.pass) c.run.ensures.still c.run.ensures.quiet
+
+pub returns-clause-rounds : goal.returns-clause-rounds
+returns-clause-rounds g c = ok_keeps c.args.chore (part c.args.pass.now) (part c.run.new.pass) c.run.result c.run.ensures.done

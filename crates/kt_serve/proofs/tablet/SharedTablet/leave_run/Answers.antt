@@ -2,7 +2,7 @@ use Rattle.std.proofs.Common.{◌≡◌, ap, sym, ◌∙◌}
 use Rattle.kt_seatlock.specs.Passes.{number}
 use Rattle.kt_serve.proofs.Stills.{still_tablet, stop_later}
 use Rattle.kt_serve.proofs.Ends.{log_stays, has_left}
-use Rattle.kt_serve.proofs.Rests.{store_stays}
+use Rattle.kt_serve.proofs.Rests.{upkeep_stays}
 use Rattle.kt_serve.proofs.tablet.SharedTablet.leave_run.Goals as goal
 
 pub returns-clause-still : goal.returns-clause-still
@@ -19,5 +19,5 @@ returns-clause-left g c =
     let same : number c.leave.new.pass ≡ c.number-by.result = c.leave.ensures.pass.0.1 ∙ c.enter-engine.ensures.pass.0.1 ∙ sym c.number-by.ensures in
     has_left _ c.enter-engine.result c.session_over.new.self c.number-by.result _ c.leave.ensures.told.1 same (ap (λ v. v.running) c.session_over.ensures.running)
 
-pub returns-clause-rests : goal.returns-clause-rests
-returns-clause-rests g c = store_stays _ _ c.enter-engine.result c.session_over.new.self _ _ c.enter-engine.ensures.part.0 c.leave.ensures.told.1 (c.leave.ensures.pass.0.1 ∙ c.enter-engine.ensures.pass.0.1) (ap (λ v. v.store) c.session_over.ensures.running)
+pub returns-clause-upkeep : goal.returns-clause-upkeep
+returns-clause-upkeep g c = upkeep_stays _ _ c.enter-engine.result c.session_over.new.self _ _ c.enter-engine.ensures.part.0 c.leave.ensures.told.1 (c.leave.ensures.pass.0.1 ∙ c.enter-engine.ensures.pass.0.1) (ap (λ v. v.store) c.session_over.ensures.running) (ap (λ v. v.upkeep) c.session_over.ensures.running)

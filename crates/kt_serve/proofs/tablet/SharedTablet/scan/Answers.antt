@@ -7,6 +7,7 @@ use Rattle.kt_serve.proofs.Commands.{command_after, after_going}
 use Rattle.kt_serve.proofs.Tells.{on_root}
 use Rattle.kt_serve.proofs.Scans.{lacks_after}
 use Rattle.kt_serve.proofs.Open.{is_answered_ok, open_before}
+use Rattle.kt_serve.proofs.Rests.{upkeep_then}
 use Rattle.kt_serve.proofs.tablet.SharedTablet.scan.Goals as goal
 
 pub read_rows-requires-clause-on : goal.read_rows-requires-clause-on
@@ -35,5 +36,5 @@ returns-in-Ok-clause-answer g c = is_answered_ok (part c.args.pass.now) (part c.
 pub returns-in-Err-Stopped-clause-answer : goal.returns-in-Err-Stopped-clause-answer
 returns-in-Err-Stopped-clause-answer g c = λ ne. absurd (ne refl)
 
-pub returns-in-Ok-clause-rests : goal.returns-in-Ok-clause-rests
-returns-in-Ok-clause-rests g c = λ rests. c.read_rows.ensures.rests (c.draw_time.ensures.rests rests)
+pub returns-in-Ok-clause-upkeep : goal.returns-in-Ok-clause-upkeep
+returns-in-Ok-clause-upkeep g c = upkeep_then _ _ _ c.draw_time.ensures.upkeep c.read_rows.ensures.upkeep
