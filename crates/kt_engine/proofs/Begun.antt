@@ -23,7 +23,7 @@ use Rattle.kt_history.specs.History.{Past}
 use Rattle.kt_histlaws.specs.Pending.{Aloft}
 use Rattle.kt_histlaws.specs.Core.{Core}
 use Rattle.kt_histlaws.specs.Histories.{hists}
-use Rattle.kt_histlaws.specs.Events.{begun, answered}
+use Rattle.kt_histlaws.specs.Events.{begun}
 use Rattle.kt_tablet.specs.Views.{View, place_at}
 use Rattle.kt_tablet.specs.declared.tablet.write.BeginNo.{BeginNo}
 use Rattle.kt_tablet.specs.declared.tablet.write.BeginNo.TheVariants as no
@@ -50,7 +50,7 @@ use Rattle.kt_engine.proofs.Places.{place-new, any_session, apart_more}
 use Rattle.kt_engine.proofs.Records.{newest-append, order_more, last_of-replicate, below_last, above_log, ops_of-new, waits_on, all_parts, count_parts, framed_parts}
 use Rattle.kt_engine.proofs.Fronts.{low_below, last_of-append}
 use Rattle.kt_engine.proofs.Waiting.{untold_begun, keys_told, none_holds}
-use Rattle.kt_engine.proofs.Runs.{past_line, past_begun, acknowledged_more, stop_line, goes_still, err_is}
+use Rattle.kt_engine.proofs.Runs.{past_begun, acknowledged_more, stop_line, goes_still, err_is}
 
 -- more room
 pub with_room : {L D C : Type 0} (tells : Bool) (seen : L → Files) (now : L → ℕ) (leaves : L → ℕ → Files → Type 0) (faults : L → ℕ) (old : EngineView L D C) (room : ℕ) → old.log.room ≤ room → IsEngine tells seen now leaves faults old → IsEngine tells seen now leaves faults (record old { log = record old.log { room = room } })

@@ -1,7 +1,6 @@
 -- Each event keeps the engine and its store.
-use Rattle.std.proofs.Common.{◌≡◌, ℕ, ◌+◌, ◌≤◌, Bool, List, [], ◌∷◌, ◌++◌, Result, Some, None, true, false, length, refl, sym, subst}
-use Rattle.std.specs.Prelude.{IsTrue, IfOk, IfErr, OnErr, OnOk, Err}
-use Rattle.kt_base.specs.Causes.{Rose}
+use Rattle.std.proofs.Common.{◌≡◌, ℕ, ◌≤◌, Bool, Result, true, refl, sym, subst}
+use Rattle.std.specs.Prelude.{IfOk, IfErr, OnErr, OnOk, Err}
 use Rattle.kt_disk.specs.Disk.{Files}
 use Rattle.kt_history.specs.declared.event.Event.TheVariants as event
 use Rattle.kt_history.specs.declared.scan.At.{At}

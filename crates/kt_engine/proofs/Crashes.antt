@@ -25,7 +25,7 @@ use Rattle.kt_content.specs.Content.{IsContent as HoldsPast}
 use Rattle.kt_content.specs.Recovering.{low_after}
 use Rattle.kt_content.proofs.Records.{told_front, order_front}
 use Rattle.kt_content.proofs.Recovering.{runs_up, take_all, each_front, all_hold}
-use Rattle.kt_engine.specs.Logged.{PlanPasses, KeepsRun, AcknowledgedIn, AcknowledgedBy, NamesOnly, HoldsRecords, HoldsFront, HoldsRun}
+use Rattle.kt_engine.specs.Logged.{PlanPasses, KeepsRun, AcknowledgedIn, AcknowledgedBy, NamesOnly, HoldsFront, HoldsRun}
 use Rattle.kt_engine.specs.Near.{NamesEach, AreNear, IsBelow}
 use Rattle.kt_engine.specs.Engines.{EngineView, HasNoJobs, IsContent, IsLogged, IsEngine, LeavesRecords, Recovers, RecoversEach, RecoversAll, core_from}
 use Rattle.kt_engine.specs.Moments.{HasSome}

@@ -16,7 +16,7 @@ use Rattle.kt_engine.specs.declared.upkeep.Stage.TheVariants as stage
 use Rattle.kt_engine.specs.Engines.{EngineView, IsEngine, core_from}
 use Rattle.kt_engine.specs.DeltaJobs.{IsOn, HasBegunDeltas, MayFinishDeltas, HasFinishedDeltas}
 use Rattle.kt_engine.specs.Files.{AreFiled, publisher_by, job_at, files_by, files_over}
-use Rattle.kt_engine.specs.Jobs.{JobView, UpkeepView, UpkeepsView, JobOn, HasUpkeep, upkeep_at, job_of, asked, job_finished, over_for, over_of, over_by, takes_of}
+use Rattle.kt_engine.specs.Jobs.{JobView, UpkeepsView, JobOn, HasUpkeep, upkeep_at, job_of, asked, job_finished, over_for, over_of, over_by, takes_of}
 use Rattle.kt_engine.specs.Logged.{KeepsSince}
 use Rattle.kt_engine.specs.Near.{AreNear}
 use Rattle.kt_engine.specs.Outside.{is_at_outside}

@@ -1,5 +1,5 @@
 -- The superblock of a flush stands over the stores with its outputs.
-use Rattle.std.proofs.Common.{◌≡◌, ℕ, suc, ◌<◌, ◌≤◌, ◌+◌, Bool, true, false, List, [], ◌∷◌, ◌++◌, length, map, Option, Some, None, refl, sym, ap, ◌∙◌, subst, arith, append_assoc, cond}
+use Rattle.std.proofs.Common.{◌≡◌, ℕ, ◌<◌, ◌≤◌, ◌+◌, Bool, true, false, List, [], ◌∷◌, ◌++◌, length, map, Option, Some, None, refl, sym, ap, ◌∙◌, subst, arith, append_assoc, cond}
 use Rattle.std.specs.Prelude.{◌==◌, is_some}
 use Rattle.std.proofs.lemmas.List.{append-nil, map-append, length-map}
 use Rattle.kt_history.specs.declared.operation.RowOp.{RowOp}
@@ -26,7 +26,7 @@ use Rattle.kt_content.specs.Places.{Super}
 use Rattle.kt_content.specs.Rules.{Rules, RowsetsPass}
 use Rattle.kt_content.specs.Content.{NumbersDiffer}
 use Rattle.kt_content.specs.InMemory.{mem_rows, rowset, Stores, group}
-use Rattle.kt_content.specs.RunEvents.{Named, Numbers, RecordsBelow, RowsetsBelow, StoresBelow, NumbersAreFresh}
+use Rattle.kt_content.specs.RunEvents.{Numbers, RecordsBelow, RowsetsBelow, StoresBelow, NumbersAreFresh}
 use Rattle.kt_content.specs.Recovering.{Lends}
 use Rattle.kt_content.specs.Recoverable.{SuperStands}
 use Rattle.kt_content.specs.Flushes.{flushed, AreFrom, EachTold, before}
@@ -39,7 +39,7 @@ use Rattle.kt_engine.specs.Over.{bare_store, first_name, AreTaken, AreLeft}
 use Rattle.kt_engine.proofs.Deltas.{deltas_over}
 use Rattle.kt_engine.proofs.Passed.{EachHist, never_passes, both_pass, behind_passes}
 use Rattle.kt_engine.proofs.Rising.{records_rise, rowsets_rise, rowsets_both}
-use Rattle.kt_engine.proofs.StoreEvents.{base, past, past_is, stands_now, ends}
+use Rattle.kt_engine.proofs.StoreEvents.{base, past_is, stands_now, ends}
 
 -- ---- each write has its COMMIT
 

@@ -1,5 +1,5 @@
 -- A job is over, and the engine and its store stand.
-use Rattle.std.proofs.Common.{◌≡◌, ◌≢◌, ◌≤◌, ◌<◌, ◌^◌, ℕ, Bool, List, ◌++◌, map, Option, Some, None, refl, sym, ap, ◌∙◌, subst}
+use Rattle.std.proofs.Common.{◌≡◌, ◌≤◌, ℕ, Bool, List, ◌++◌, map, Option, Some, None, refl, sym, ap, ◌∙◌, subst}
 use Rattle.kt_disk.specs.Disk.{Files}
 use Rattle.kt_history.specs.declared.target.Target.{Target}
 use Rattle.kt_history.specs.Stores.{Store}

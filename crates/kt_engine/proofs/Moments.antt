@@ -1,5 +1,5 @@
 -- What a crash at a moment inside a call on a device leaves.
-use Rattle.std.proofs.Common.{◌≡◌, ℕ, ◌≤◌, ◌<◌, Bool, true, false, cond, List, ◌++◌, length, Option, Some, None, Ok, refl, sym, ap, subst, ◌∙◌, arith, inl, inr}
+use Rattle.std.proofs.Common.{◌≡◌, ℕ, ◌<◌, Bool, true, false, cond, List, ◌++◌, length, Option, Some, None, Ok, refl, sym, ap, subst, ◌∙◌, arith, inl, inr}
 use Rattle.std.specs.Prelude.{IsTrue, ◌==◌}
 use Rattle.std.proofs.lemmas.List.{append-nil}
 use Rattle.std.proofs.Math.Seq.{take-append_seam}
@@ -10,12 +10,11 @@ use Rattle.kt_journal.specs.Log.{records_of}
 use Rattle.kt_journal.specs.Open.{JournalView}
 use Rattle.kt_super.specs.declared.meta.Meta.{Meta}
 use Rattle.kt_super.specs.Body.{IsMeta}
-use Rattle.kt_super.specs.Slots.{super_of, AreStable}
+use Rattle.kt_super.specs.Slots.{super_of}
 use Rattle.kt_super.specs.Rowsets.{has}
-use Rattle.kt_outputs.specs.Outputs.{ButNumbers}
 use Rattle.kt_content.specs.Rules.{Rules}
-use Rattle.kt_storeside.specs.Supers.{named, FilesStand, BetweenBoth, HasSuper}
-use Rattle.kt_storeside.specs.Sides.{StoreView, HasEither, LeavesSpelled, IsSide}
+use Rattle.kt_storeside.specs.Supers.{FilesStand, BetweenBoth, HasSuper}
+use Rattle.kt_storeside.specs.Sides.{StoreView, LeavesSpelled, IsSide}
 use Rattle.kt_storeside.proofs.Gates.{same_slot}
 use Rattle.kt_storeside.proofs.Named.{named_between, first_file}
 use Rattle.kt_storeside.proofs.Standing.{left_below}

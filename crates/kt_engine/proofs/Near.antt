@@ -1,5 +1,5 @@
 -- The numbers that an engine gives stay near those that opening found.
-use Rattle.std.proofs.Common.{◌≡◌, ◌≤◌, ◌<◌, ◌+◌, ◌^◌, inl, inr, ℕ, zero, suc, List, [], ◌∷◌, ◌++◌, drop, map, length, refl, sym, ap, subst, arith, Bool, true, false, cond}
+use Rattle.std.proofs.Common.{◌≡◌, ◌≤◌, ◌<◌, ◌+◌, ◌^◌, inl, inr, ℕ, zero, suc, List, [], ◌∷◌, ◌++◌, drop, map, refl, sym, subst, arith, Bool, true, false, cond}
 use Rattle.std.specs.List.{All, Contains}
 use Rattle.kt_history.specs.declared.target.Target.{Target}
 use Rattle.kt_history.specs.declared.target.Target.TheVariants.{Mem, Delta}
@@ -12,7 +12,7 @@ use Rattle.kt_content.specs.RunEvents.{RowsetsBelow}
 use Rattle.kt_content.specs.Flushes.{before}
 use Rattle.kt_stores.specs.Takes.{Takes, takes, of_left, over_to}
 use Rattle.kt_engine.specs.Logged.{NamesOnly}
-use Rattle.kt_engine.specs.Near.{first_number, IsGiven, IsKnown, NamesEach, AreNear, most_rowsets, most_deltas, IsUpTo, IsBelow}
+use Rattle.kt_engine.specs.Near.{first_number, IsKnown, NamesEach, AreNear, most_rowsets, most_deltas, IsUpTo, IsBelow}
 use Rattle.kt_engine.specs.Over.{first_name}
 use Rattle.kt_engine.proofs.Lists.{all_none, all_head, all_tail, all_cons, all_more, all_each}
 

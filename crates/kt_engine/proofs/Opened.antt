@@ -20,7 +20,6 @@ use Rattle.kt_journal.specs.Order.{newest_first}
 use Rattle.kt_journal.specs.Open.{JournalView}
 use Rattle.kt_loglaws.specs.Replay.{last_of}
 use Rattle.kt_loglaws.specs.Fronts.{with_records}
-use Rattle.kt_loglaws.specs.Side.{SideView}
 use Rattle.kt_histlaws.specs.Pending.{Aloft}
 use Rattle.kt_histlaws.specs.Core.{Core}
 use Rattle.kt_histlaws.specs.Histories.{hists, past_hist}

@@ -1,5 +1,5 @@
 -- The engine that was made of what opening found.
-use Rattle.std.proofs.Common.{◌≡◌, ℕ, Bool, List, [], Some, None, true, sym, subst}
+use Rattle.std.proofs.Common.{◌≡◌, ℕ, Bool, List, [], Some, None, true}
 use Rattle.kt_disk.specs.Disk.{Files}
 use Rattle.kt_history.specs.declared.target.Target.{Target}
 use Rattle.kt_records.specs.declared.entry.Entry.{Entry}

@@ -1,5 +1,5 @@
 -- What a crash leaves of both devices.
-use Rattle.std.proofs.Common.{◌≡◌, ℕ, ◌+◌, ◌<◌, ◌≤◌, max, Bool, true, false, List, [], ◌∷◌, ◌++◌, length, Some, None, Ok, refl, sym, ap, ◌∙◌, subst, arith, append_assoc, length-append, inl, inr}
+use Rattle.std.proofs.Common.{◌≡◌, ℕ, ◌+◌, ◌≤◌, max, Bool, true, false, List, [], ◌∷◌, ◌++◌, length, Some, Ok, refl, sym, ap, ◌∙◌, subst, arith, append_assoc, length-append, inl, inr}
 use Rattle.std.specs.Prelude.{◌⊎◌, ◌&&◌, not, IsTrue, take}
 use Rattle.std.proofs.lemmas.List.{append_cancel_left}
 use Rattle.kt_base.specs.Causes.{Rose}
@@ -9,7 +9,6 @@ use Rattle.kt_history.specs.History.{Past, raise}
 use Rattle.kt_records.specs.declared.entry.Entry.{Entry}
 use Rattle.kt_records.specs.declared.entry.CommitRow.{CommitRow}
 use Rattle.kt_journal.specs.Log.{log_of, records_of, IsLog, Holds}
-use Rattle.kt_journal.specs.Open.{JournalView}
 use Rattle.kt_loglaws.specs.Replay.{last_of}
 use Rattle.kt_loglaws.specs.Fronts.{with_records, upto}
 use Rattle.kt_histlaws.specs.Core.{Core, run_past}
@@ -23,10 +22,10 @@ use Rattle.kt_content.proofs.Records.{told_front, order_front}
 use Rattle.kt_content.proofs.Recovering.{runs_up, take_all, each_front}
 use Rattle.kt_reopen.specs.Both.{super_in}
 use Rattle.kt_storeside.specs.Supers.{HasSuper}
-use Rattle.kt_storeside.specs.Sides.{StoreView, HasEither, IsSide}
-use Rattle.kt_engine.specs.Logged.{PlanPasses, LogStands, AcknowledgedIn, KeepsFrom, KeepsSince, HoldsUpTo}
-use Rattle.kt_engine.specs.Engines.{EngineView, IsContent, IsLogged, IsEngine, core_from, are_whole}
-use Rattle.kt_engine.specs.Stored.{IsOneOf, IsSuperOf, IsStored, core_at, names_at, numbers_of, HoldsBoth, RecoversPair, RecoversBoth, HasFailed}
+use Rattle.kt_storeside.specs.Sides.{HasEither, IsSide}
+use Rattle.kt_engine.specs.Logged.{LogStands, AcknowledgedIn, KeepsFrom, KeepsSince, HoldsUpTo}
+use Rattle.kt_engine.specs.Engines.{EngineView, IsContent, IsEngine, core_from}
+use Rattle.kt_engine.specs.Stored.{IsOneOf, IsStored, core_at, names_at, numbers_of, RecoversPair, RecoversBoth, HasFailed}
 use Rattle.kt_engine.proofs.Crashes.{front_at, acknowledged_by, last_of-front, leaves_some}
 use Rattle.kt_engine.proofs.Devices.{acknowledged_longer}
 use Rattle.kt_engine.proofs.Fronts.{told_climbs, front_last, upto_front}

@@ -1,5 +1,5 @@
 -- Steps of a visit.
-use Rattle.std.proofs.Common.{◌≡◌, ℕ, List, ◌++◌, ◌∷◌, [], inl, inr, ap, sym, ◌∙◌, subst}
+use Rattle.std.proofs.Common.{List, ◌∙◌, subst}
 use Rattle.kt_history.specs.declared.event.Event.{Event}
 use Rattle.kt_seatlock.specs.Trails.{Adds}
 use Rattle.kt_engine.specs.Visits.{session_of, StepsAreOne}

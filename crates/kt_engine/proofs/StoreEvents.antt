@@ -1,18 +1,17 @@
 -- The store of an engine goes out, comes home and breaks.
-use Rattle.std.proofs.Common.{◌≡◌, ℕ, suc, ◌+◌, ◌<◌, ◌≤◌, max, Bool, true, false, List, [], ◌∷◌, ◌++◌, length, map, Option, Some, None, Ok, refl, sym, ap, ◌∙◌, subst, arith, append_assoc, length-append, inl, inr}
-use Rattle.std.specs.Prelude.{◌⊎◌, ◌≢◌, IsTrue, take}
-use Rattle.std.proofs.lemmas.List.{append-nil, append_cancel_left}
+use Rattle.std.proofs.Common.{◌≡◌, ℕ, ◌+◌, ◌≤◌, max, Bool, true, false, List, [], ◌++◌, length, map, Option, Some, None, refl, sym, ap, ◌∙◌, subst, arith, inl, inr}
+use Rattle.std.specs.Prelude.{IsTrue}
+use Rattle.std.proofs.lemmas.List.{append-nil}
 use Rattle.kt_disk.specs.Disk.{Files}
 use Rattle.kt_history.specs.declared.target.Target.{Target}
 use Rattle.kt_history.specs.declared.target.Target.TheVariants.{Mem, Delta}
-use Rattle.kt_history.specs.History.{Past, IsPastUpTo, raise}
+use Rattle.kt_history.specs.History.{Past, IsPastUpTo}
 use Rattle.kt_records.specs.declared.entry.Entry.{Entry}
 use Rattle.kt_records.specs.declared.entry.CommitRow.{CommitRow}
-use Rattle.kt_journal.specs.Log.{log_of, records_of, IsLog}
+use Rattle.kt_journal.specs.Log.{IsLog}
 use Rattle.kt_loglaws.specs.Replay.{last_of}
-use Rattle.kt_loglaws.specs.Fronts.{with_records, upto}
-use Rattle.kt_histlaws.specs.Core.{Core, Stands, flown_by, run_past}
-use Rattle.kt_histlaws.specs.Flights.{AllFly}
+use Rattle.kt_loglaws.specs.Fronts.{with_records}
+use Rattle.kt_histlaws.specs.Core.{Core, Stands}
 use Rattle.kt_super.specs.declared.meta.Meta.{Meta}
 use Rattle.kt_super.specs.Rowsets.{has}
 use Rattle.kt_diskrowset.specs.Rowset.{HeldFiles}
@@ -29,15 +28,14 @@ use Rattle.kt_content.proofs.LaterMark.{later_mark_stands}
 use Rattle.kt_content.proofs.Records.{ends_later}
 use Rattle.kt_content.proofs.Recovering.{runs_up}
 use Rattle.kt_reopen.specs.Both.{super_in}
-use Rattle.kt_storeside.specs.Supers.{named, HasSuper}
+use Rattle.kt_storeside.specs.Supers.{named}
 use Rattle.kt_storeside.specs.Turns.{IsTurn, IsLeft}
-use Rattle.kt_storeside.specs.Sides.{StoreView, Beginning, published_in, HasEither, IsSide}
-use Rattle.kt_storeside.specs.Next.{next_meta}
+use Rattle.kt_storeside.specs.Sides.{StoreView, Beginning, published_in, IsSide}
 use Rattle.kt_storeside.proofs.Named.{named_between}
 use Rattle.kt_storeside.proofs.Standing.{left_below}
 use Rattle.kt_engine.specs.Memory.{name_of, resident, IsNamed}
 use Rattle.kt_engine.specs.Logged.{PlanPasses, LogStands, KeepsSince}
-use Rattle.kt_engine.specs.Engines.{EngineView, IsContent, IsFound, IsLogged, IsEngine, core_from}
+use Rattle.kt_engine.specs.Engines.{EngineView, IsContent, IsFound, IsEngine, core_from}
 use Rattle.kt_engine.specs.Over.{over_at}
 use Rattle.kt_engine.specs.Files.{AreFiled}
 use Rattle.kt_engine.specs.Stored.{IsOneOf, IsMarkOf, IsSuperOf, IsStored, AreOutside, over, core_at, names_at, files_at, numbers_of, next_super}

@@ -1,6 +1,6 @@
 -- The store of an engine as it is opened.
-use Rattle.std.proofs.Common.{◌≡◌, ℕ, ◌≤◌, max, List, [], ◌∷◌, ◌++◌, length, map, Option, Some, None, refl, sym, Bool, ap, ◌∙◌, subst, arith, length-append, inl, inr}
-use Rattle.std.specs.Prelude.{◌⊎◌, IsTrue}
+use Rattle.std.proofs.Common.{◌≡◌, ℕ, ◌≤◌, List, [], ◌++◌, length, map, Some, None, refl, sym, Bool, ap, ◌∙◌, subst, arith, length-append, inl, inr}
+use Rattle.std.specs.Prelude.{IsTrue}
 use Rattle.std.specs.List.{All}
 use Rattle.std.proofs.lemmas.List.{append-nil}
 use Rattle.kt_disk.specs.Disk.{Files}
@@ -25,13 +25,13 @@ use Rattle.kt_reopen.specs.Opened.{AreReadOf}
 use Rattle.kt_storeside.specs.Sides.{StoreView}
 use Rattle.kt_tablet.specs.Views.{View, Opens}
 use Rattle.kt_engine.specs.Memory.{name_of, AreNamed}
-use Rattle.kt_engine.specs.Logged.{PlanPasses, Waits, UntoldFly, AreCommits, NamesOnly, TakesUp, DeltasBelow, LogStands, KeepsFrom, KeepsSince}
-use Rattle.kt_engine.specs.Engines.{IsContent, core_from}
+use Rattle.kt_engine.specs.Logged.{Waits, UntoldFly, AreCommits, NamesOnly, TakesUp, DeltasBelow, KeepsFrom, KeepsSince}
+use Rattle.kt_engine.specs.Engines.{IsContent}
 use Rattle.kt_engine.specs.Files.{AreFiled}
 use Rattle.kt_engine.specs.Near.{first_number, LeavesRoom}
 use Rattle.kt_engine.proofs.Filed.{filed_read}
 use Rattle.kt_engine.proofs.Near.{near_opened}
-use Rattle.kt_engine.specs.Stored.{IsOneOf, IsMarkOf, IsSuperOf, IsStored, next_given}
+use Rattle.kt_engine.specs.Stored.{IsMarkOf, IsSuperOf, IsStored, next_given}
 use Rattle.kt_engine.proofs.Rising.{records_rise, names_rise}
 use Rattle.kt_engine.proofs.Lists.{all_none}
 use Rattle.kt_engine.proofs.Marks.{of_each}

@@ -1,7 +1,7 @@
 -- What keeps the store of an engine: each event of the tablet and of the log, under each superblock that is published or lent.
-use Rattle.std.proofs.Common.{◌≡◌, ℕ, suc, ◌+◌, ◌-◌, ◌<◌, ◌≤◌, ◌^◌, max, Bool, true, false, List, [], ◌∷◌, ◌++◌, length, map, Option, Some, None, refl, sym, ap, ◌∙◌, subst, arith, append_assoc, length-append, inl, inr}
-use Rattle.std.specs.Prelude.{◌==◌, ◌⊎◌, not, IsTrue, drop, take, slice_get}
-use Rattle.std.specs.List.{All, list_any, find, filter, remove}
+use Rattle.std.proofs.Common.{◌≡◌, ℕ, ◌+◌, ◌-◌, ◌<◌, ◌≤◌, Bool, true, false, List, [], ◌∷◌, ◌++◌, length, Option, Some, None, refl, sym, ap, ◌∙◌, subst, arith, append_assoc, length-append, inl, inr}
+use Rattle.std.specs.Prelude.{◌==◌, ◌⊎◌, IsTrue, drop, take, slice_get}
+use Rattle.std.specs.List.{All, find, remove}
 use Rattle.std.proofs.lemmas.List.{append-nil, take-append-le}
 use Rattle.kt_disk.specs.Disk.{Files}
 use Rattle.kt_history.specs.declared.change.Outcome.{Outcome}
@@ -9,7 +9,6 @@ use Rattle.kt_history.specs.declared.event.Event.{Event}
 use Rattle.kt_history.specs.declared.event.Event.TheVariants as event
 use Rattle.kt_history.specs.declared.operation.RowOp.{RowOp}
 use Rattle.kt_history.specs.declared.target.Target.{Target}
-use Rattle.kt_history.specs.History.{Past}
 use Rattle.kt_history.specs.Machine.{IfWrite, Turn, command_at, start, state_after}
 use Rattle.kt_history.specs.Operations.{share_key}
 use Rattle.kt_records.specs.declared.entry.Entry.{Entry}
@@ -37,15 +36,15 @@ use Rattle.kt_stores.specs.Shelf.{place_of}
 use Rattle.kt_tablet.specs.Views.{View}
 use Rattle.kt_tablet.specs.Visits.{IsRunOutcome}
 use Rattle.kt_engine.specs.Memory.{resident}
-use Rattle.kt_engine.specs.Logged.{PlanPasses, Waits, UntoldFly, LogStands, AreApart, KeepsFrom, KeepsSince, StoresPass}
-use Rattle.kt_engine.specs.Engines.{EngineView, IsContent, core_from}
-use Rattle.kt_content.specs.RunEvents.{Numbers, RecordsBelow}
+use Rattle.kt_engine.specs.Logged.{PlanPasses, Waits, UntoldFly, LogStands, AreApart, KeepsSince, StoresPass}
+use Rattle.kt_engine.specs.Engines.{EngineView, core_from}
+use Rattle.kt_content.specs.RunEvents.{RecordsBelow}
 use Rattle.kt_content.specs.Flushes.{before}
 use Rattle.kt_engine.specs.Over.{Over, over_at, names_over, core_over}
 use Rattle.kt_engine.specs.Jobs.{JobView, UpkeepsView, JobOn, job_of, over_by, over_in}
 use Rattle.kt_engine.specs.Files.{AreFiled, publisher, job_at, files_over}
 use Rattle.kt_engine.specs.Near.{AreNear}
-use Rattle.kt_engine.specs.Stored.{IsOneOf, IsSuperOf, IsStored, AreOutside, over, core_at, names_at, files_at}
+use Rattle.kt_engine.specs.Stored.{IsOneOf, IsStored, AreOutside, over, core_at, names_at, files_at}
 use Rattle.kt_engine.proofs.Filed.{none_at}
 use Rattle.kt_engine.proofs.Outside.{outside_line}
 use Rattle.kt_engine.proofs.Applied.{NotedHere, applied_run, pushed_is}

@@ -1,10 +1,10 @@
 -- A plan is taken: the store of an engine is kept.
-use Rattle.std.proofs.Common.{◌≡◌, ℕ, Bool, List, [], ◌∷◌, refl, sym, ap, ◌∙◌, subst}
+use Rattle.std.proofs.Common.{◌≡◌, ℕ, Bool, List, [], sym, ◌∙◌, subst}
 use Rattle.kt_disk.specs.Disk.{Files}
 use Rattle.kt_history.specs.declared.command.Command.{Command}
 use Rattle.kt_history.specs.Machine.{Workload, first_turns}
 use Rattle.kt_tablet.specs.Views.{View}
-use Rattle.kt_engine.specs.Engines.{EngineView, core_from}
+use Rattle.kt_engine.specs.Engines.{EngineView}
 use Rattle.kt_engine.specs.Stored.{IsStored}
 use Rattle.kt_engine.proofs.Outside.{outside_planned}
 use Rattle.kt_engine.proofs.Plans.{no_plan, past_at_first}

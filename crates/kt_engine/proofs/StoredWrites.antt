@@ -1,7 +1,7 @@
 -- The life of a write keeps the store of an engine.
-use Rattle.std.proofs.Common.{◌≡◌, ℕ, suc, ◌+◌, ◌-◌, ◌<◌, ◌≤◌, ◌^◌, Bool, true, false, List, [], ◌∷◌, ◌++◌, length, map, Option, None, Some, refl, sym, ap, ◌∙◌, subst, arith, inl, length-append}
-use Rattle.std.specs.Prelude.{◌==◌, not, IsTrue, IfOk, OnErr, Result, Ok, Err}
-use Rattle.std.specs.List.{All, list_any, find, filter}
+use Rattle.std.proofs.Common.{◌≡◌, ℕ, suc, ◌+◌, ◌-◌, ◌<◌, ◌^◌, Bool, false, List, [], ◌∷◌, ◌++◌, length, map, Option, None, Some, refl, sym, ap, ◌∙◌, subst, arith, inl, length-append}
+use Rattle.std.specs.Prelude.{◌==◌, not, IfOk, OnErr, Result, Ok, Err}
+use Rattle.std.specs.List.{list_any, find, filter}
 use Rattle.kt_disk.specs.Disk.{Files}
 use Rattle.kt_history.specs.declared.change.Change.{Change}
 use Rattle.kt_history.specs.declared.change.Outcome.{Outcome}
@@ -28,7 +28,7 @@ use Rattle.kt_tablet.specs.Views.{View}
 use Rattle.kt_loglaws.specs.Side.{SideView}
 use Rattle.kt_tablet.specs.declared.tablet.Stopped.{Stopped}
 use Rattle.kt_tablet.specs.Visits.{MayBegin, HasBegun, holder_of, HasApplied, HasNoted, IsRunOutcome, MayEnd, HasEnded, IsWritten, HasHandedOut}
-use Rattle.kt_engine.specs.Logged.{Waits, KeepsSince}
+use Rattle.kt_engine.specs.Logged.{Waits}
 use Rattle.kt_engine.specs.Engines.{EngineView, IsFound, IsEngine, core_from}
 use Rattle.kt_engine.specs.Near.{first_number}
 use Rattle.kt_engine.specs.Over.{AreLeft, over_at}

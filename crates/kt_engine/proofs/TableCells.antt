@@ -1,10 +1,9 @@
 -- What is tested of columns, of cells and of changes, one by one.
 use Rattle.std.proofs.Common.{◌≡◌, ◌≤◌, ◌<◌, ◌+◌, ◌^◌, ℕ, zero, suc, List, [], ◌∷◌, ◌++◌, map, length, get_or, take, drop, Some, None, Option, refl, sym, ap, ◌∙◌, subst, arith, inl, inr, append_assoc}
 use Rattle.std.specs.Prelude.{slice_get, All}
-use Rattle.std.specs.List.{AllByRecursion, flat_map}
+use Rattle.std.specs.List.{flat_map}
 use Rattle.std.specs.Option.{option_map}
 use Rattle.std.proofs.lemmas.List.{drop_all, drop-map, append-nil, map-append}
-use Rattle.kt_base.specs.declared.cell.Cell.{Cell}
 use Rattle.kt_base.specs.declared.cell_ref.CellRef.{CellRef}
 use Rattle.kt_base.specs.Borrowed.{cell_in}
 use Rattle.kt_cells.specs.Borrowed.{cells_in, cells_in_ref}

@@ -7,7 +7,7 @@ use Rattle.kt_history.specs.declared.target.Target.{Target}
 use Rattle.kt_history.specs.History.{Past, raise}
 use Rattle.kt_records.specs.declared.entry.Entry.{Entry}
 use Rattle.kt_records.specs.declared.entry.CommitRow.{CommitRow}
-use Rattle.kt_journal.specs.Log.{log_of, records_of, IsLog, Holds}
+use Rattle.kt_journal.specs.Log.{records_of, IsLog, Holds}
 use Rattle.kt_journal.specs.Open.{JournalView}
 use Rattle.kt_loglaws.specs.Replay.{last_of}
 use Rattle.kt_loglaws.specs.Fronts.{with_records}
@@ -18,7 +18,7 @@ use Rattle.kt_content.specs.Content.{IsContent as HoldsPast}
 use Rattle.kt_content.proofs.Recovering.{all_hold}
 use Rattle.kt_reopen.specs.Both.{super_in}
 use Rattle.kt_storeside.specs.Supers.{HasSuper}
-use Rattle.kt_engine.specs.Logged.{LogStands, KeepsSince}
+use Rattle.kt_engine.specs.Logged.{KeepsSince}
 use Rattle.kt_engine.specs.Engines.{EngineView, IsEngine, core_from}
 use Rattle.kt_engine.specs.Stored.{IsStored, AreMarked, core_at, names_at}
 use Rattle.kt_engine.specs.Pairs.{RecoversAllOfBoth, LeavesPublished}

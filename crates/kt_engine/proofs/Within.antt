@@ -1,5 +1,5 @@
 -- The superblock of a job lies within the bounds of the store, as the next one does.
-use Rattle.std.proofs.Common.{◌≡◌, ◌≤◌, ◌<◌, ◌+◌, ◌^◌, ℕ, Bool, true, false, cond, List, [], ◌∷◌, ◌++◌, refl, sym, subst, ap, ◌∙◌, arith}
+use Rattle.std.proofs.Common.{◌≡◌, ◌≤◌, ◌<◌, ◌+◌, ℕ, Bool, true, false, cond, List, [], ◌∷◌, ◌++◌, arith}
 use Rattle.std.specs.Prelude.{◌==◌, not}
 use Rattle.std.specs.List.{AllByRecursion, list_any, filter}
 use Rattle.kt_records.specs.declared.entry.Entry.{Entry}
@@ -17,7 +17,7 @@ use Rattle.kt_storeside.specs.Sides.{Most, IsWithin}
 use Rattle.kt_stores.specs.Takes.{Takes, mems, rowsets}
 use Rattle.kt_engine.specs.Engines.{EngineView}
 use Rattle.kt_engine.specs.DeltaJobs.{delta_meta}
-use Rattle.kt_engine.specs.JobMeta.{left_metas, metas_left, last_by}
+use Rattle.kt_engine.specs.JobMeta.{metas_left, last_by}
 use Rattle.kt_engine.specs.Jobs.{JobView, takes_by, takes_of}
 use Rattle.kt_engine.specs.JobSteps.{TakesBy, TakesInputs, outputs_of}
 use Rattle.kt_engine.specs.Near.{AreNear, LeavesRoom, first_number, most_deltas}

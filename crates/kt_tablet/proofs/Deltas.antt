@@ -1,5 +1,5 @@
 -- One disk rowset of a tablet, by its number.
-use Rattle.std.proofs.Common.{◌≡◌, ◌≤◌, ◌<◌, ◌+◌, ◌-◌, ℕ, zero, suc, Bool, true, false, cond, List, [], ◌∷◌, map, Option, Some, None, refl, sym, ap, subst, ◌∙◌, arith}
+use Rattle.std.proofs.Common.{◌≡◌, ◌≤◌, ◌+◌, ◌-◌, ℕ, zero, suc, Bool, true, false, cond, List, [], ◌∷◌, map, Option, Some, None, refl, sym, ap, subst, ◌∙◌, arith}
 use Rattle.std.specs.Prelude.{slice_get, ◌==◌}
 use Rattle.std.specs.List.{position}
 use Rattle.std.specs.Option.{option_map}
@@ -13,7 +13,7 @@ use Rattle.kt_diskrowset.specs.Rowset.{HeldFiles}
 use Rattle.kt_pool.specs.Contents.{Contents}
 use Rattle.kt_stores.specs.Shelf.{Shelved, is_rowset, taken_by, renamed, names_of}
 use Rattle.kt_stores.proofs.Seeking.{seek, position_is, seek-map}
-use Rattle.kt_tablet.specs.Filling.{as_told, all_told}
+use Rattle.kt_tablet.specs.Filling.{all_told}
 use Rattle.kt_tablet.specs.Jobs.{dms_in, store_in_names, next_dms, files_of, with_files}
 use Rattle.kt_tablet.specs.Views.{View}
 

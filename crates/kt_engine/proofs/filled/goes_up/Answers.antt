@@ -1,4 +1,4 @@
-use Rattle.std.proofs.Common.{◌≡◌, ◌∙◌, false, true, drop, sym, arith, ◌+◌}
+use Rattle.std.proofs.Common.{◌≡◌, false, true, drop, arith, ◌+◌}
 use Rattle.std.specs.Prelude.{nat_lt}
 use Rattle.std.proofs.lemmas.Bool.{OnTrue_from, ltb-true}
 use Rattle.kt_cells.specs.Borrowed.{cells_in_ref}

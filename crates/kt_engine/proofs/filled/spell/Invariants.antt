@@ -1,6 +1,5 @@
-use Rattle.std.proofs.Common.{◌≡◌, ◌++◌, take, length}
+use Rattle.std.proofs.Common.{◌≡◌, ◌++◌, take}
 use Rattle.std.specs.List.{flat_map}
-use Rattle.std.specs.Int.{w16, to_le_bytes}
 use Rattle.kt_cells.specs.Borrowed.{cells_in}
 use Rattle.kt_cells.specs.Spelling.{listed_cell}
 use Rattle.kt_engine.proofs.filled.spell.Given as goal

@@ -1,7 +1,6 @@
-use Rattle.std.proofs.Common.{◌≡◌, ◌∙◌, sym, ap, subst}
+use Rattle.std.proofs.Common.{◌∙◌, sym, ap, subst}
 use Rattle.std.proofs.lemmas.Bool.{OnTrue_at}
 use Rattle.std.proofs.lemmas.Result.{on_ok_weaker}
-use Rattle.kt_cells.specs.Reading.{cells_behind}
 use Rattle.kt_cells.specs.Rules.{CellListFits}
 use Rattle.kt_cells.specs.Spelling.{cell_list}
 use Rattle.kt_history.specs.AsBytes.{change_with}

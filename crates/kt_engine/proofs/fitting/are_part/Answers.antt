@@ -1,4 +1,4 @@
-use Rattle.std.proofs.Common.{◌≡◌, length, get_or, false}
+use Rattle.std.proofs.Common.{length, get_or, false}
 use Rattle.std.specs.Prelude.{◌==◌}
 use Rattle.std.proofs.lemmas.Bool.{OnTrue_from, eqb-true}
 use Rattle.kt_base.specs.declared.cell.Kind.TheVariants as kinds

@@ -1,4 +1,4 @@
-use Rattle.std.proofs.Common.{◌+◌, ◌<◌, ◌≤◌, ℕ, drop, false, length, get_or, sym, subst, arith}
+use Rattle.std.proofs.Common.{◌+◌, ◌≤◌, ℕ, drop, false, get_or, sym, subst, arith}
 use Rattle.kt_base.specs.declared.cell.Kind.TheVariants as kinds
 use Rattle.kt_baseset.specs.declared.schema.ColumnShape.{ColumnShape}
 use Rattle.kt_merge.proofs.FitFiles.{itself_at}

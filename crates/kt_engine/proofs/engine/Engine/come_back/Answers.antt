@@ -6,7 +6,7 @@ use Rattle.kt_engine.specs.declared.job.Returned.TheVariants as returned
 use Rattle.kt_engine.specs.Jobs.{JobView}
 use Rattle.kt_engine.specs.Returning.{ReturnsBy}
 use Rattle.kt_engine.proofs.JobMetas.{same_job}
-use Rattle.kt_engine.proofs.Leaving.{is_flush, is_compaction, rereads_by, same_stage}
+use Rattle.kt_engine.proofs.Leaving.{is_flush, is_compaction, same_stage}
 use Rattle.kt_engine.proofs.Outsiders.{a_merge, merge_no_rewrite, on_rewrites}
 use Rattle.kt_engine.proofs.engine.Engine.come_back.Goals as goal
 

@@ -1,6 +1,5 @@
 use Rattle.std.proofs.Common.{◌≡◌, ◌∙◌, List, sym, ap, map, subst}
 use Rattle.std.specs.List.{AllByRecursion}
-use Rattle.kt_history.specs.declared.changes.KeyChange.{KeyChange}
 use Rattle.kt_history.specs.Rows.{Row}
 use Rattle.kt_joblaws.specs.Apart.{AreOfTable}
 use Rattle.kt_tablet.specs.Jobs.{filled_of, changes_in_memory}

@@ -1,4 +1,4 @@
-use Rattle.std.proofs.Common.{◌≡◌, ◌+◌, ℕ, Some, sym, ap, subst, ◌∙◌}
+use Rattle.std.proofs.Common.{ℕ, Some, sym, ap, subst, ◌∙◌}
 use Rattle.kt_engine.specs.declared.upkeep.Stage.TheVariants.{Publishing}
 use Rattle.kt_engine.specs.Jobs.{HasUpkeep, upkeep_at}
 use Rattle.kt_engine.proofs.Devices.{store_keeps}

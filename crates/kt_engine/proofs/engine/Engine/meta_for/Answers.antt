@@ -1,4 +1,4 @@
-use Rattle.std.proofs.Common.{◌≡◌, Some, None, sym, ap, ◌∙◌, subst, rules}
+use Rattle.std.proofs.Common.{◌≡◌, Some, None, subst, rules}
 use Rattle.kt_super.specs.declared.meta.Meta.{Meta}
 use Rattle.kt_storeside.specs.Sides.{MayBeLent}
 use Rattle.kt_engine.specs.declared.store.Purpose.TheVariants as purpose

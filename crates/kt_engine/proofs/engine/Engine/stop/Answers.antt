@@ -1,4 +1,4 @@
-use Rattle.std.proofs.Common.{sym, ap, ◌∙◌}
+use Rattle.std.proofs.Common.{sym, ap}
 use Rattle.kt_engine.proofs.Devices.{breaks, store_breaks}
 use Rattle.kt_engine.proofs.Moments.{turn_spells, turn_leaves}
 use Rattle.kt_engine.proofs.Stored.{halted_stored, broken_stored, store_broken}

@@ -1,5 +1,4 @@
-use Rattle.std.proofs.Common.{◌≡◌, Option, refl, sym, ap, subst, ◌∙◌}
-use Rattle.kt_disk.specs.Disk.{Files}
+use Rattle.std.proofs.Common.{Option, refl, sym, ap, subst, ◌∙◌}
 use Rattle.kt_super.specs.declared.meta.Meta.{Meta}
 use Rattle.kt_storeside.specs.Sides.{SpellLent}
 use Rattle.kt_engine.proofs.Moments.{turn_spells, turn_leaves}

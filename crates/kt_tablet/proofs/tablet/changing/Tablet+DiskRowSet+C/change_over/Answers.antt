@@ -1,6 +1,6 @@
-use Rattle.std.proofs.Common.{◌≡◌, ℕ, suc, map, length, sym, ap, ◌∙◌, subst, arith}
+use Rattle.std.proofs.Common.{◌≡◌, suc, map, length, sym, ap, ◌∙◌, subst, arith}
 use Rattle.std.specs.Prelude.{take, drop}
-use Rattle.kt_diskrowset.specs.Rowset.{store_of, name_of}
+use Rattle.kt_diskrowset.specs.Rowset.{store_of}
 use Rattle.kt_stores.specs.Leaving.{AreNew, shelved_rowset}
 use Rattle.kt_stores.specs.Shelf.{Shelved, names_of}
 use Rattle.kt_stores.specs.Takes.{mems, left_on, over_to}

@@ -1,4 +1,4 @@
-use Rattle.std.proofs.Common.{◌≡◌, ◌≤◌, ◌+◌, ◌-◌, ◌∙◌, suc, sym, ap, arith}
+use Rattle.std.proofs.Common.{◌≤◌, ◌+◌, ◌-◌, ◌∙◌, suc, sym, ap, arith}
 use Rattle.kt_stores.specs.Shelf.{stores_of}
 use Rattle.kt_tablet.specs.Filling.{told_stores}
 use Rattle.kt_tablet.specs.Jobs.{store_in_names, dms_in, files_of}

@@ -1,20 +1,9 @@
-use Rattle.std.proofs.Common.{◌≡◌, ◌≤◌, ◌<◌, ◌+◌, ◌-◌, ◌∙◌, ◌^◌, ℕ, suc, map, length, Some, refl, sym, ap, subst, arith}
-use Rattle.std.specs.Prelude.{slice_get}
-use Rattle.std.proofs.lemmas.List.{length-map}
+use Rattle.std.proofs.Common.{◌≤◌, ◌+◌, ◌-◌, ◌∙◌, suc, map, length, Some, sym, ap, arith}
 use Rattle.std.proofs.lemmas.Result.{IfOk-weaker}
-use Rattle.kt_history.specs.declared.target.Target.{Target}
-use Rattle.kt_history.specs.Stores.{Store}
-use Rattle.kt_histlaws.specs.Histories.{on_nth}
-use Rattle.kt_stores.specs.Shelf.{Shelved, StoresView, stores_of, names_of, taken_by}
-use Rattle.kt_tablet.specs.Filling.{all_told, told_stores}
-use Rattle.kt_tablet.specs.Jobs.{dms_in, store_in_names, files_of}
-use Rattle.kt_tablet.specs.Rows.{AreWritten}
-use Rattle.kt_tablet.specs.Views.{IsReady}
-use Rattle.kt_tablet.proofs.Deltas.{first_placed, none_placed, names_renamed, stores_renamed, told_at, told_back, name_is, same_some, filed_at}
-use Rattle.kt_tablet.proofs.Frozen.{still_sound}
-use Rattle.kt_tablet.proofs.Plans.{no_flights}
-use Rattle.kt_tablet.proofs.Several.{get_there}
-use Rattle.kt_tablet.proofs.Written.{written_none}
+use Rattle.kt_stores.specs.Shelf.{stores_of}
+use Rattle.kt_tablet.specs.Filling.{told_stores}
+use Rattle.kt_tablet.specs.Jobs.{store_in_names, files_of}
+use Rattle.kt_tablet.proofs.Deltas.{first_placed, told_at, name_is, filed_at}
 use Rattle.kt_tablet.proofs.tablet.deltas.Tablet+DiskRowSet+C.read_rowset.Goals as goal
 
 pub returns-in-Some-clause-number : goal.returns-in-Some-clause-number
