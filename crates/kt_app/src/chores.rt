@@ -13,9 +13,15 @@ use std::sync::Wait;
 #[derive(Drop)]
 pub struct Jobs<'g, G> {
     pub gate: &'g G,
+    /// Where more cells are in use than these as a session begins, it makes room first.
+    pub cells: u32,
 }
 
 impl<'g, L: Disk, D: Disk + Drop, C: Clock, G: Gate> Chores<L, D, C> for Jobs<'g, G> {
+    fn most_cells(&self) -> u32 {
+        self.cells
+    }
+
     fn run<R: Wait>(
         &self,
         rt: &R,

@@ -90,7 +90,8 @@ fn gather(alloc: Global, ends: Vec<SessionEnd>, stopped: bool) -> Result<Played,
     Ok(Played { stopped, replies })
 }
 
-// Runs the sessions of a plan that the engine has, and so many workers beside them, each in a thread.
+// Runs the sessions of a plan that the engine has, and so many workers beside them, each in a thread. Where more cells are in use than these as a session begins,
+// it makes room first.
 fn play<
     L: Disk + Send,
     D: Disk + Drop + Send,
@@ -105,6 +106,7 @@ fn play<
     lock: SeatLock<Engine<L, D, C>>,
     pass: Pass<Engine<L, D, C>>,
     engine: Engine<L, D, C>,
+    cells: u32,
     workers: u32,
     gate: &G,
 ) -> (Result<Played, NoMemory>, Engine<L, D, C>)
@@ -129,7 +131,7 @@ fn play<
         plan.as_slice(),
         workers,
         gate,
-        &Jobs { gate },
+        &Jobs { gate, cells },
     ) {
         Ok(Ended { ends, end, engine }) => match end {
             End::Done => (gather(alloc, ends, false), engine),
@@ -166,7 +168,7 @@ fn printed(
 }
 
 /// Runs a plan on an engine that was opened, and so many workers beside it, and gives what is printed of it, unless memory is wanting, and what the engine is
-/// taken apart into. Of a load that is its summary. The lock is made before there is an engine, so that no want of memory loses one.
+/// taken apart into. Of a load that is its summary. A session that begins where more cells are in use than these makes room first. The lock is made before there is an engine, so that no want of memory loses one.
 pub fn run_plan<
     L: Disk + Send,
     D: Disk + Drop + Send,
@@ -182,6 +184,7 @@ pub fn run_plan<
     pass: Pass<Engine<L, D, C>>,
     mut engine: Engine<L, D, C>,
     load: Option<u32>,
+    cells: u32,
     workers: u32,
     gate: &G,
 ) -> (Option<Output>, Parts<L, D, C>)
@@ -221,7 +224,9 @@ pub fn run_plan<
     ensures fault { IfSome result.0 (λ out. IsTrue out.stopped → OneRose (L.faults engine.device) (L.faults result.1.log) (D.faults engine.store_device) (D.faults result.1.store)) }
 {
     engine.set_plan(plan);
-    let (played, engine) = play(rt, alloc, schema, plan, lock, pass, engine, workers, gate);
+    let (played, engine) = play(
+        rt, alloc, schema, plan, lock, pass, engine, cells, workers, gate,
+    );
     engine.standing();
     let (a, c) = engine.times();
     let left = load_now(alloc, schema, load, &engine);

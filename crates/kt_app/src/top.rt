@@ -230,6 +230,7 @@ fn run_and_write<
     pass: Pass<Engine<L, D, C>>,
     engine: Engine<L, D, C>,
     load: Option<u32>,
+    cells: u32,
     workers: u32,
     sink: &mut K,
     gate: &G,
@@ -256,7 +257,7 @@ fn run_and_write<
     ensures stand { IsTrue D.tells → NamedStand D.seen D.now D.leaves result.1.store }
 {
     let (output, parts) = run_plan(
-        rt, alloc, schema, plan, lock, pass, engine, load, workers, gate,
+        rt, alloc, schema, plan, lock, pass, engine, load, cells, workers, gate,
     );
     match output {
         Some(output) => (write_output(sink, &output), parts),
@@ -339,7 +340,7 @@ fn open_and_run<
     match open_tablet(alloc, log, store, clock, schema, cells, cells) {
         Ok(engine) => {
             let (status, parts) = run_and_write(
-                rt, alloc, schema, plan, lock, pass, engine, load, workers, sink, gate,
+                rt, alloc, schema, plan, lock, pass, engine, load, cells, workers, sink, gate,
             );
             end_with(status, parts.log, parts.store, parts.clock)
         }
