@@ -125,6 +125,13 @@ def a_write_has_room_after_a_flush(room):
         prints(room, words, lines, replies, history)
 
 
+def a_session_begins_with_room(room):
+    """Where the unflushed rows of a log take more cells than the words give, a session flushes before its first command, though it only reads; the next finds nothing to flush."""
+    machine, _ = plays(room, TABLE + "".join(f'insert "{it:05}" {it}\n' for it in range(2_000)), None, 0)
+    for cells, rowsets in ((262_144, 0), (1_024, 1), (1_024, 1)):
+        machine, _ = plays(room, TABLE + "scan now\n", machine, rowsets, ["--pool", str(cells)])
+
+
 def changes_go_through_all_files(room):
     """Changes are flushed, merged and folded, and the scans at three times print what they are to."""
     lines = ['insert 1 "a"', "flush", 'update 1 v="b"', "flush-deltas", 'update 1 v="c"', "flush-deltas", "minor", "major", "scan at 4096", "scan at 8192", "scan now"]
@@ -206,6 +213,7 @@ ALL = [
     a_flush_of_nothing_is_done,
     a_flush_leaves_its_files,
     a_write_has_room_after_a_flush,
+    a_session_begins_with_room,
     changes_go_through_all_files,
     a_record_that_is_lost_is_refused,
     later_changes_go_to_files,
