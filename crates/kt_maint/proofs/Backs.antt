@@ -1,6 +1,7 @@
 -- A job that is back in the lock, by its want.
 use Rattle.std.proofs.Common.{◌≡◌, ◌≤◌, ℕ, Bool, List, Option, inl, refl, sym, ap, subst, ◌∙◌}
 use Rattle.std.proofs.Math.Nat.{min-le_left}
+use Rattle.kt_disk.specs.Disk.{Files}
 use Rattle.kt_diskrowset.specs.declared.data.RowSetData.{RowSetData}
 use Rattle.kt_histlaws.specs.Parts.{part}
 use Rattle.kt_tablet.specs.Views.{View, place_at}
@@ -12,7 +13,7 @@ use Rattle.kt_engine.specs.declared.job.Returned.TheVariants as returned
 use Rattle.kt_engine.specs.Engines.{EngineView}
 use Rattle.kt_engine.specs.Jobs.{JobView, UpkeepView, UpkeepsView, HasUpkeep, upkeep_at}
 use Rattle.kt_engine.specs.Outside.{job_again}
-use Rattle.kt_engine.specs.Returning.{HasRefrozen, HasReturned, ReturnsBy}
+use Rattle.kt_engine.specs.Returning.{HasRefrozen, HasReturned, ReturnsBy, HasReread}
 use Rattle.kt_engine.specs.Visits.{IsVisit}
 use Rattle.kt_maint.specs.Outside.{IsBack}
 use Rattle.kt_maint.specs.Runs.{MayAbandon, OnlyJob}
@@ -29,15 +30,15 @@ pub record IsFlushed {L D C : Type 0} (w : Want) (tells : Bool) (n : ℕ) (job :
   pub is : w ≡ want.Flush
   pub back : HasRefrozen tells n job mems a b
 
-module _ {L D C : Type 0} (tells : Bool) (n : ℕ) (job : JobView) (a b : EngineView L D C) where
-  compacted : (w : Want) (list : List RowSetData) → ReturnsBy w tells n job (returned.Rowsets list) a b → IsCompacted w tells n job list a b
+module _ {L D C : Type 0} (tells : Bool) (seen : D → Files) (n : ℕ) (job : JobView) (a b : EngineView L D C) where
+  compacted : (w : Want) (list : List RowSetData) → ReturnsBy w tells seen n job (returned.Rowsets list) a b → IsCompacted w tells n job list a b
   compacted want.Flush list never = absurd never
   compacted (want.Compact taken) list back = record { taken = taken; is = refl; back = back }
   compacted (want.FlushDeltas r) list never = absurd never
   compacted (want.Minor r) list never = absurd never
   compacted (want.Major r) list never = absurd never
 
-  flushed : (w : Want) (mems : MemsNow) → ReturnsBy w tells n job (returned.Mems mems) a b → IsFlushed w tells n job mems a b
+  flushed : (w : Want) (mems : MemsNow) → ReturnsBy w tells seen n job (returned.Mems mems) a b → IsFlushed w tells n job mems a b
   flushed want.Flush mems back = record { is = refl; back = back }
   flushed (want.Compact taken) mems never = absurd never
   flushed (want.FlushDeltas r) mems never = absurd never
@@ -45,11 +46,11 @@ module _ {L D C : Type 0} (tells : Bool) (n : ℕ) (job : JobView) (a b : Engine
   flushed (want.Major r) mems never = absurd never
 
   -- as it was handed out
-  pub compacted_as : (w : Want) (list : List RowSetData) (r : Returned) → r ≡ returned.Rowsets list → ReturnsBy w tells n job r a b → IsCompacted w tells n job list a b
-  compacted_as w list r is back = compacted w list (subst (λ (x : Returned). ReturnsBy w tells n job x a b) is back)
+  pub compacted_as : (w : Want) (list : List RowSetData) (r : Returned) → r ≡ returned.Rowsets list → ReturnsBy w tells seen n job r a b → IsCompacted w tells n job list a b
+  compacted_as w list r is back = compacted w list (subst (λ (x : Returned). ReturnsBy w tells seen n job x a b) is back)
 
-  pub flushed_as : (w : Want) (mems : MemsNow) (r : Returned) → r ≡ returned.Mems mems → ReturnsBy w tells n job r a b → IsFlushed w tells n job mems a b
-  flushed_as w mems r is back = flushed w mems (subst (λ (x : Returned). ReturnsBy w tells n job x a b) is back)
+  pub flushed_as : (w : Want) (mems : MemsNow) (r : Returned) → r ≡ returned.Mems mems → ReturnsBy w tells seen n job r a b → IsFlushed w tells n job mems a b
+  flushed_as w mems r is back = flushed w mems (subst (λ (x : Returned). ReturnsBy w tells seen n job x a b) is back)
 
 -- ---- nothing else has changed
 
@@ -78,6 +79,9 @@ module _ {L D C : Type 0} (n : ℕ) (a b : EngineView L D C) (visit : IsVisit n 
 
   pub back_returned : (tells : Bool) (job : JobView) (list : List RowSetData) → HasReturned tells n job list a b → IsBack n a b
   back_returned tells job list back = back_beside back.at.beside (only_job n _ a.upkeep b.upkeep back.at.upkeep)
+
+  pub back_reread : (tells : Bool) (seen : D → Files) (job : JobView) (d : RowSetData) → HasReread tells seen n job d a b → IsBack n a b
+  back_reread tells seen job d back = back_beside back.at.beside (only_job n _ a.upkeep b.upkeep back.at.upkeep)
 
   -- it froze once
   pub back_refrozen : (tells : Bool) (job : JobView) (mems : MemsNow) → HasRefrozen tells n job mems a b → IsBack n a b

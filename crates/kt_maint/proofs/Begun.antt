@@ -14,13 +14,15 @@ use Rattle.kt_engine.specs.Jobs.{JobView, UpkeepView, UpkeepsView, upkeep_at, jo
 use Rattle.kt_engine.specs.JobSteps.{IsMerge, HasTaken, HasBegunJob}
 use Rattle.kt_engine.specs.DeltaJobs.{HasBegunDeltas}
 use Rattle.kt_engine.specs.JobCalls.{ByWant, HasEndedBy}
-use Rattle.kt_engine.specs.Visits.{IsVisit, root_of}
+use Rattle.kt_engine.specs.Visits.{IsVisit, part_in, root_of}
 use Rattle.kt_engine.proofs.Visiting.{root_stays}
 use Rattle.kt_maint.specs.Done.{GivesFor}
 use Rattle.kt_engine.specs.declared.job.MaintNo.{MaintNo}
 use Rattle.kt_engine.specs.declared.job.MaintNo.TheVariants as no
-use Rattle.kt_maint.specs.Runs.{KeepsAsks, OnlyJob, IsReady, JobIsAt, HasNoDevice, StandsAs, HasRun, RunsAs, AddsStop, is_pass, turn_of}
-use Rattle.kt_maint.specs.Outside.{EndsAs, EndsRead, HasEnded, HasReadTheSame, KeepsRead, LeftAs, StartsAs, ended}
+use Rattle.kt_maint.specs.Runs.{KeepsAsks, OnlyJob, IsReady, JobIsAt, HasNoDevice, StandsAs, RunsAs, AddsStop, is_pass}
+use Rattle.kt_maint.specs.Outside.{EndsAs, EndsRead, HasEnded, HasReadTheSame, IsAwayBy, KeepsRead, LeftAs, StartsAs, ended}
+use Rattle.kt_maint.specs.declared.reworking.Away.{Away}
+use Rattle.kt_maint.specs.declared.reworking.Away.TheVariants as away
 use Rattle.kt_maint.specs.declared.jobs.Start.{Start}
 use Rattle.kt_maint.specs.declared.jobs.Start.TheVariants as start
 use Rattle.kt_maint.specs.declared.tries.Turn.{Turn}
@@ -167,15 +169,6 @@ has_ended n a b w ends over visit = record {
 pub ended_then : {L D C : Type 0} (n : ℕ) (a b c : EngineView L D C) (w : Want) → OnlyJob n a.upkeep b.upkeep → HasEnded n w b c → HasEnded n w a c
 ended_then n a b c w own h = record { job = h.job; upkeep = h.upkeep ∙ ap (ended w h.job) own; given = h.given }
 
--- the pass asked once more, and what it asked for is done
-pub has_run : {L D C : Type 0} (n : ℕ) (a b c : EngineView L D C) (w : Want) → HasBegunNow n w a b → HasEnded n w b c → HasRun n w a c
-has_run n a b c w begun h = record { job = h.job; upkeep = h.upkeep ∙ ap (ended w h.job) begun.own; given = h.given }
-
--- however it ended
-pub runs_then : {L D C : Type 0} (n : ℕ) (a b c : EngineView L D C) (w : Want) (no : MaintNo) → EndsAs n w b c (Err no) → RunsAs n w a c (turn_of no)
-runs_then n a b c w no.Memory h = (h.0, λ none. h.1)
-runs_then n a b c w no.Stopped h = h
-
 -- where the job is carried out, and closed
 module _ {L D C : Type 0} (n : ℕ) (a b c : EngineView L D C) (w : Want) (carried result : Result (Unit {0}) MaintNo) where
   pub ends_as_carried : result ≡ carried → c.log ≡ b.log → c.store ≡ b.store → is_pass b.log.holder n ≡ false → b.store.holder ≡ None → (carried ≢ Err no.Stopped → KeepsAsks n a.upkeep b.upkeep) → OnOk carried (MayEnd b n w) → (result ≡ Err no.Stopped → c ≡ b)
@@ -203,16 +196,25 @@ pub begins_merge : {L D C : Type 0} (v : EngineView L D C) (n : ℕ) (w : Want) 
 begins_merge v n w (inl is) h = subst (MergeBegins v n) (sym is) (subst (BeginsBy v n) is h)
 begins_merge v n w (inr is) h = subst (MergeBegins v n) (sym is.1) (subst (BeginsBy v n) is.1 h)
 
+-- the job that is outside
+job_away : {L D C : Type 0} (tells : Bool) (seen : D → Files) (n : ℕ) (w : Want) (out : Away D) (v : EngineView L D C) → IsAwayBy tells seen n w out (part_in v n) → (job : JobView) × ((job_of n v.upkeep ≡ Some job) × (job.want ≡ w))
+job_away tells seen n w (away.Merge out) v h = (h.job, (h.own, h.want.0))
+job_away tells seen n w (away.One out) v h = (h.job, (h.own, h.want.0))
+
 -- the job that began is outside, or is given up
-pub starts_as : {L D C : Type 0} (tells : Bool) (seen : D → Files) (n : ℕ) (w : Want) (a b c : EngineView L D C) (s : Start Turn D) → HasBegunNow n w a b → MergeBegins b n w → ((x : Want) → MergeBegins b n x → LeftAs tells seen n x b c s) → StartsAs tells seen n w a c s
-starts_as {L} {D} {C} tells seen n w a b c s begun merges left = by s (left w merges)
+pub starts_as : {L D C : Type 0} (tells : Bool) (seen : D → Files) (n : ℕ) (w : Want) (a b c : EngineView L D C) (s : Start Turn D) → HasBegunNow n w a b → LeftAs tells seen n w b c s → StartsAs tells seen n w a c s
+starts_as {L} {D} {C} tells seen n w a b c s begun left = by s left
   where
     by : (x : Start Turn D) → LeftAs tells seen n w b c x → StartsAs tells seen n w a c x
     by (start.Over t) h = subst (RunsAs n w a c) (sym h.0) (h.1, λ none. h.2)
-    by (start.Out out) h = record {
-      away = h.0;
-      asks = h.1.own ∙ ap (λ (u : UpkeepView). record u { job = job_of n c.upkeep }) begun.own ∙ ap (λ (o : Option JobView). record (asked w begun.job (upkeep_at n a.upkeep.passes)) { job = o }) h.0.own;
-    }
+    by (start.Out out) h =
+        let its = job_away tells seen n w out c h.0 in
+        record {
+          away = h.0;
+          job = its.0;
+          want = its.1.1;
+          asks = h.1.own ∙ ap (λ (u : UpkeepView). record u { job = job_of n c.upkeep }) begun.own ∙ ap (λ (o : Option JobView). record (asked w begun.job (upkeep_at n a.upkeep.passes)) { job = o }) its.1.0;
+        }
 
 -- a job that is done may end
 pub done_of : {L D C : Type 0} (n : ℕ) (v : EngineView L D C) (r : Result (Unit {0}) MaintNo) (done : Unit {0}) → r ≡ Ok done → OnOk r ((w : Want) × MayEnd v n w) → (w : Want) × MayEnd v n w

@@ -12,14 +12,19 @@ use Rattle.kt_engine.specs.declared.job.MaintNo.{MaintNo}
 use Rattle.kt_engine.specs.declared.job.MaintNo.TheVariants as no
 use Rattle.kt_engine.proofs.Visiting.{root_stays}
 use Rattle.kt_maint.specs.Calls.{AfterCall, AfterEnd, AfterStart, AfterTurn, ComesTo, HasAsked, HasAway, HasEndedJob, HasNoJob, IsBetween, SameUpkeep, has_stop, ran_of}
+use Rattle.kt_engine.specs.DeltaJobs.{IsOn}
+use Rattle.kt_maint.specs.DeltaRuns.{IsAwayOne}
+use Rattle.kt_maint.specs.Reworks.{HasComeBy, HasMade, HasWorked, MayWork}
 use Rattle.kt_maint.specs.Done.{FoundBy, HasDoneJob, HasGiven}
 use Rattle.kt_maint.specs.Outside.{EndsAs, EndsRead, HasWritten, StartsAs, ended}
 use Rattle.kt_maint.specs.Runs.{HasNoDevice as PassHasNone, StandsAs}
 use Rattle.kt_maint.specs.Work.{LeftNone}
 use Rattle.kt_maint.specs.declared.jobs.Start.{Start}
 use Rattle.kt_maint.specs.declared.jobs.Start.TheVariants as start
-use Rattle.kt_maint.specs.declared.outside.Outcome.{Outcome}
-use Rattle.kt_maint.specs.declared.outside.Outside.{Outside}
+use Rattle.kt_maint.specs.declared.reworking.Away.{Away}
+use Rattle.kt_maint.specs.declared.reworking.Away.TheVariants as away
+use Rattle.kt_maint.specs.declared.reworking.Came.{Came}
+use Rattle.kt_maint.specs.declared.reworking.Came.TheVariants as came
 use Rattle.kt_maint.specs.declared.run.Ran.TheVariants as ran
 use Rattle.kt_maint.specs.declared.tries.Turn.{Turn}
 use Rattle.kt_maint.specs.declared.tries.Turn.TheVariants as turn
@@ -37,7 +42,7 @@ module _ {L D C : Type 0} (told told' : Option (PartView L D C)) (x y : EngineVi
   -- the visit that begins
   pub after_start : HasNoDevice told → (tells : Bool) (seen : D → Files) (w : Want) (s : Start Turn D) (lines : List Event) → TellsStop y.tablet.core → lines ≡ y.tablet.core.trail → StartsAs tells seen n w x y s → AfterStart tells seen n w told told' lines s
   after_start home tells seen w (start.Over t) lines stops sees h = after_turn told x n is home told' y is' visit w t lines stops sees h
-  after_start home tells seen w (start.Out out) lines stops sees h = record { was = part_in x n; was_is = is; part = part_in y n; is = is'; away = h.away; asks = h.asks }
+  after_start home tells seen w (start.Out out) lines stops sees h = record { was = part_in x n; was_is = is; part = part_in y n; is = is'; away = h.away; job = h.job; want = h.want; asks = h.asks }
 
   -- and the last one
   pub after_end : (job : JobView) → job_of n x.upkeep ≡ Some job → (r : Result (Unit {0}) MaintNo) (lines : List Event) → TellsStop y.tablet.core → lines ≡ y.tablet.core.trail → EndsAs n job.want x y r → OnOk r (EndsRead n x.upkeep y.upkeep) → AfterEnd told told' lines r
@@ -48,28 +53,56 @@ module _ {L D C : Type 0} (told told' : Option (PartView L D C)) (x y : EngineVi
   after_end job has (Err no.Stopped) lines stops sees h reads = (stop_told y lines stops sees h.0, home_told h.1)
   after_end job has (Err no.Memory) lines stops sees h reads = (home_told h.0, record { part = part_in y n; is = is'; none = h.1 })
 
--- what was written comes back
-pub comes_to : {L D C : Type 0} (tells : Bool) (seen : D → Files) (now : D → ℕ) (leaves : D → ℕ → Files → Type 0) (faults : D → ℕ) (n : ℕ) (out : Outside D) (outcome : Outcome D) (told : Option (PartView L D C)) → HasAway tells seen n out told → (outcome.bound ≡ out.input.bound) × (outcome.most ≡ out.most)
-    → HasWritten tells seen now leaves faults outcome.most out.input out.lent outcome.lent outcome.written → ComesTo tells seen now leaves faults n outcome told
-comes_to tells seen now leaves faults n out outcome told h bound written = record { part = h.part; is = h.is; come = record { want = h.want; out = out; away = h.away; bound_is = bound.0; most_is = bound.1; written = written } }
+-- what a job has outside can be worked on,
+pub may_work : {L D C : Type 0} (tells : Bool) (seen : D → Files) (n : ℕ) (out : Away D) (told : Option (PartView L D C)) → HasAway tells seen n out told → MayWork tells seen out
+may_work tells seen n (away.Merge out) told h = h.away.may
+may_work tells seen n (away.One out) told h = (subst (IsOn out.rowset.number) (sym h.away.want.1) h.away.on.1, h.away.vacant)
 
-pub has_away : {L D C : Type 0} (tells : Bool) (seen : D → Files) (n : ℕ) (w : Want) (out : Outside D) (before mid : Option (PartView L D C)) → IsBetween tells seen n w out before mid → HasAway tells seen n out mid
+-- and what was written comes back
+pub comes_to : {L D C : Type 0} (tells : Bool) (seen : D → Files) (now : D → ℕ) (leaves : D → ℕ → Files → Type 0) (faults : D → ℕ) (n : ℕ) (out : Away D) (back : Came D) (told : Option (PartView L D C)) → HasAway tells seen n out told → HasWorked tells seen now leaves faults out back
+    → ComesTo tells seen now leaves faults n back told
+comes_to tells seen now leaves faults n (away.Merge out) (came.Merge c) told h worked = record {
+  part = h.part;
+  is = h.is;
+  come = record { want = h.want; out = out; away = h.away; bound_is = worked.0; most_is = worked.1; written = subst (λ (k : ℕ). HasWritten tells seen now leaves faults k out.input out.lent c.lent c.written) (sym worked.1) worked.2 };
+}
+comes_to tells seen now leaves faults n (away.One out) (came.One c) told h worked =
+    let wants : c.want ≡ h.want = worked.0 ∙ h.away.want.1 in
+    record {
+      part = h.part;
+      is = h.is;
+      come = record {
+        out = out;
+        away = subst (λ (w : Want). IsAwayOne tells seen n w out h.part) (sym wants) h.away;
+        most_is = worked.1;
+        written = subst (λ (k : ℕ). HasMade tells seen now leaves faults k c.want out.rowset out.lent c.lent c.written) (sym worked.1) (subst (λ (w : Want). HasMade tells seen now leaves faults out.most w out.rowset out.lent c.lent c.written) (sym worked.0) worked.2);
+      };
+    }
+comes_to tells seen now leaves faults n (away.Merge out) (came.One c) told h worked = absurd worked
+comes_to tells seen now leaves faults n (away.One out) (came.Merge c) told h worked = absurd worked
+
+-- its job, by what came back
+pub job_of_come : {L D C : Type 0} (tells : Bool) (seen : D → Files) (now : D → ℕ) (leaves : D → ℕ → Files → Type 0) (faults : D → ℕ) (n : ℕ) (back : Came D) (e : EngineView L D C) → HasComeBy tells seen now leaves faults n back (part_in e n) → (job : JobView) × (job_of n e.upkeep ≡ Some job)
+job_of_come tells seen now leaves faults n (came.Merge c) e h = (h.away.job, h.away.own)
+job_of_come tells seen now leaves faults n (came.One c) e h = (h.away.job, h.away.own)
+
+pub has_away : {L D C : Type 0} (tells : Bool) (seen : D → Files) (n : ℕ) (w : Want) (out : Away D) (before mid : Option (PartView L D C)) → IsBetween tells seen n w out before mid → HasAway tells seen n out mid
 has_away tells seen n w out before mid between = record { want = w; part = between.part; is = between.is; away = between.away }
 
 -- how a turn ended, as it is known
 pub turn_at : {L D C : Type 0} (w : Want) (a b : Option (PartView L D C)) (lines : List Event) (t known : Turn) → t ≡ known → AfterTurn w a b lines t → AfterTurn w a b lines known
 turn_at w a b lines t known is h = subst (AfterTurn w a b lines) is h
 
-module _ {L D C : Type 0} (tells : Bool) (seen : D → Files) (n : ℕ) (w : Want) (out : Outside D) (before mid after : Option (PartView L D C)) (between : IsBetween tells seen n w out before mid) where
+module _ {L D C : Type 0} (tells : Bool) (seen : D → Files) (n : ℕ) (w : Want) (out : Away D) (before mid after : Option (PartView L D C)) (between : IsBetween tells seen n w out before mid) where
   module _ (e : HasEndedJob mid after) where
     same_part : e.was ≡ between.part
     same_part = some_is e.was between.part (sym e.was_is ∙ between.is)
 
     same_want : e.its.want ≡ w
-    same_want = ap (λ (j : JobView). j.want) (some_is e.its between.away.job (sym e.had ∙ ap (λ (p : PartView L D C). p.pass.upkeep.job) same_part ∙ between.away.own)) ∙ between.away.want.0
+    same_want = ap (λ (j : JobView). j.want) (some_is e.its between.job (sym e.had ∙ ap (λ (p : PartView L D C). p.pass.upkeep.job) same_part ∙ ap (λ (u : UpkeepView). u.job) between.asks)) ∙ between.want
 
     -- what the pass has of maintenance
-    all_upkeep : e.part.pass.upkeep ≡ ended w e.job (asked w between.away.job between.was.pass.upkeep)
+    all_upkeep : e.part.pass.upkeep ≡ ended w e.job (asked w between.job between.was.pass.upkeep)
     all_upkeep = e.upkeep ∙ (λ k. ended (same_want k) e.job (same_part k).pass.upkeep) ∙ ap (ended w e.job) between.asks
 
     its_ask : HasAsked (finished w) before after
@@ -113,7 +146,6 @@ told_ran (Err x) P h e = absurd cc
 
 -- a try in a visit leaves no job to a pass that had none
 pub starts_none : {L D C : Type 0} (tells : Bool) (seen : D → Files) (n : ℕ) (w : Want) (x y : EngineView L D C) (s : Start Turn D) → StartsAs tells seen n w x y s → LeftNone n x y s
-starts_none tells seen n w x y (start.Over turn.Done) h = λ none. inl (ap (λ (u : UpkeepView). u.job) h.0.upkeep)
 starts_none tells seen n w x y (start.Over turn.Nothing) h = λ none. inl h.1
 starts_none tells seen n w x y (start.Over turn.Wait) h = λ none. inl (ap (λ (u : UpkeepView). u.job) h.0 ∙ none)
 starts_none tells seen n w x y (start.Over turn.Memory) h = λ none. inl (h.1 none)

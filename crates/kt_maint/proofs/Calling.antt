@@ -92,21 +92,6 @@ module _ {L D C : Type 0} where
       no_device_told h = record { part = part_in y n; is = is'; log = none_out y.log.holder y.log.out n h.log; store = none_lent y.store.holder y.store n h.store }
 
       pub after_turn : (w : Want) (t : Turn) (seen : List Event) → TellsStop y.tablet.core → seen ≡ y.tablet.core.trail → RunsAs n w x y t → AfterTurn w told told' seen t
-      after_turn w turn.Done seen tells sees r = (
-        record {
-          was = part_in x n;
-          was_is = is;
-          part = part_in y n;
-          is = is';
-          asks = ap (λ (u : UpkeepView). u.asks) r.0.upkeep;
-          last_is = ap (λ (u : UpkeepView). u.last) r.0.upkeep;
-          round = (ap (λ (u : UpkeepView). u.round) r.0.upkeep, ap (λ (u : UpkeepView). u.rounds) r.0.upkeep);
-          todo = ap (λ (u : UpkeepView). u.todo) r.0.upkeep;
-          job = ap (λ (u : UpkeepView). u.job) r.0.upkeep;
-        },
-        no_device_told r.1,
-        record { part = part_in y n; is = is'; job = r.0.job; done = ap (λ (u : UpkeepView). u.done) r.0.upkeep; given = r.0.given },
-      )
       after_turn w turn.Nothing seen tells sees r = (
         record {
           was = part_in x n;

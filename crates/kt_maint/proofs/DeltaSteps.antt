@@ -1,6 +1,6 @@
 -- A job on the files of one disk rowset, step by step.
-use Rattle.std.proofs.Common.{◌≡◌, ◌≤◌, ◌+◌, ℕ, Bool, true, false, cond, List, [], ◌∷◌, Option, Some, Result, Ok, Err, inl, refl, sym, ap, subst, ◌∙◌, arith}
-use Rattle.std.specs.Prelude.{IsTrue, IfOk, ◌==◌}
+use Rattle.std.proofs.Common.{◌≡◌, ◌≤◌, ◌+◌, ℕ, Bool, true, false, cond, List, [], ◌∷◌, Option, Some, None, Result, Ok, Err, inl, refl, sym, ap, subst, ◌∙◌, arith}
+use Rattle.std.specs.Prelude.{IsTrue, IfOk, OnOk, ◌==◌}
 use Rattle.kt_disk.specs.Disk.{Files}
 use Rattle.kt_history.specs.declared.target.Target.{Target}
 use Rattle.kt_history.specs.declared.target.Target.TheVariants.{Mem, Delta}
@@ -36,14 +36,16 @@ use Rattle.kt_engine.specs.Stored.{IsStored, next_super}
 use Rattle.kt_engine.specs.Files.{IsFiled, AreFiled}
 use Rattle.kt_engine.specs.Jobs.{JobView, UpkeepView, UpkeepsView, job_of, IsUnpublished}
 use Rattle.kt_engine.specs.JobSteps.{HasInput, AtNewStage}
-use Rattle.kt_engine.specs.JobCalls.{ByWant, HasReadRowset, GivesOne, MayEndBy}
+use Rattle.kt_engine.specs.declared.job.MaintNo.{MaintNo}
+use Rattle.kt_engine.specs.JobCalls.{ByWant, HasReadRowset, GivesOne, MayEndBy, MayGoOut}
 use Rattle.kt_engine.specs.DeltaJobs.{IsOn, IsRead, RedosAs, HasShape, FilesStay, StayIn, delta_meta, MayPublishDeltas, MayFinishDeltas}
 use Rattle.kt_engine.proofs.Filed.{entry_number}
 use Rattle.kt_engine.proofs.JobCalls.{by_rowset, as_rowset}
 use Rattle.kt_engine.proofs.Stored.{filed_now}
 use Rattle.kt_maint.specs.Done.{GivesRewritten, GivesFor}
 use Rattle.kt_maint.specs.Runs.{IsQuiet, IsReady, MayAbandon, IsPublished, going_out}
-use Rattle.kt_maint.specs.DeltaRuns.{DeltasAt, Leaves, IsMade, HasRewritten}
+use Rattle.kt_maint.specs.DeltaRuns.{DeltasAt, Leaves, IsMade, HasReadOne, HasRewritten, MayHandOne}
+use Rattle.kt_maint.specs.Outside.{KeepsRead}
 use Rattle.kt_maint.specs.JobRuns.{HasHandedIn, HasHandedOne, HandsIn, OneIsWritten, MayEnd}
 use Rattle.kt_maint.proofs.Stages.{some_is}
 use Rattle.kt_maint.proofs.Kept.{IsOfSuper, entry_rules, keeps_rowset, files_stay, kept_stand}
@@ -96,66 +98,50 @@ module _ {L D C : Type 0} (n : ℕ) (w : Want) where
   pub may_abandon : {s : Stage} (v : EngineView L D C) → DeltasAt v n w s → IsUnpublished s → MayAbandon v n
   may_abandon v at early = record { job = at.job; has = at.has; early = subst IsUnpublished (sym at.at) early; free = at.free }
 
-  -- its disk rowset was handed out
-  pub record ReadsOne (a b : EngineView L D C) (at : DeltasAt a n w stage.Begun) (d : RowSetData) : Type 0 where
-    pub bound : ℕ
-    pub mark : ℕ
-    pub inputs : Inputs
-    pub dms : ℕ
-    pub is : IsRead a.tablet at.job.rowset dms d
-    pub held : files_of d.number a.tablet.files ≡ Some (held_in d)
-    pub later : AtNewStage n (record at.job { stage = stage.Read; bound = bound; mark = mark; inputs = Some inputs; dms = dms; read = Some d }) a b
-
-  -- alone
+  -- its disk rowset was handed out, alone
   pub reads_one : (tells : Bool) (seen : D → Files) (a b : EngineView L D C) (at : DeltasAt a n w stage.Begun) (inputs : Inputs) (bound mark : ℕ)
       → ByWant at.job.want (HasInput a.tablet at.job.taken inputs bound mark × AtNewStage n (record at.job { stage = stage.Read; bound = bound; mark = mark; inputs = Some inputs }) a b) (λ r. HasReadRowset tells seen n at.job inputs bound mark a b)
-      → (h : HasReadRowset tells seen n at.job inputs bound mark a b) × ((d : RowSetData) → inputs.rowsets ≡ d ∷ [] → ReadsOne a b at d)
+      → HasReadRowset tells seen n at.job inputs bound mark a b
   reads_one tells seen a b at inputs bound mark read =
-      let h = by_rowset (HasInput a.tablet at.job.taken inputs bound mark × AtNewStage n (record at.job { stage = stage.Read; bound = bound; mark = mark; inputs = Some inputs }) a b) (λ r. HasReadRowset tells seen n at.job inputs bound mark a b) at.job.want at.job.rowset (subst (IsOn at.job.rowset) (sym at.want) at.on) read in (
-        h,
-        λ d e. subst (ReadsOne a b at) (one_is h.d d (sym h.alone.1 ∙ e)) (record { bound = bound; mark = mark; inputs = inputs; dms = h.dms; is = h.is; held = h.held; later = h.later }),
-      )
+      by_rowset (HasInput a.tablet at.job.taken inputs bound mark × AtNewStage n (record at.job { stage = stage.Read; bound = bound; mark = mark; inputs = Some inputs }) a b) (λ r. HasReadRowset tells seen n at.job inputs bound mark a b) at.job.want at.job.rowset (subst (IsOn at.job.rowset) (sym at.want) at.on) read
 
-  pub read_at : (a b : EngineView L D C) (at : DeltasAt a n w stage.Begun) (d : RowSetData) → ReadsOne a b at d → DeltasAt b n w stage.Read
-  read_at a b at d h = at_then a b at stage.Read (record at.job { stage = stage.Read; bound = h.bound; mark = h.mark; inputs = Some h.inputs; dms = h.dms; read = Some d }) refl refl refl h.later
-
-  pub read_on : (a b : EngineView L D C) (at : DeltasAt a n w stage.Begun) (d : RowSetData) → ReadsOne a b at d → IsOn d.number w
-  read_on a b at d h = subst (λ (r : ℕ). IsOn r w) (sym h.is.number) at.on
-
-  -- what was read and written as it is to be
-  pub made : (a b : EngineView L D C) (at : DeltasAt a n w stage.Begun) (read d : RowSetData) → ReadsOne a b at read → IsRewritten read d → HasShape w d → IsWhole d → Leaves w (held_in read) (held_in d) → IsMade b n w d
-  made a b at read d h rewritten shape whole leaves =
-      let is = h.is in
+  pub read_one : (tells : Bool) (seen : D → Files) (a b : EngineView L D C) (at : DeltasAt a n w stage.Begun) (inputs : Inputs) (bound mark : ℕ) (d : RowSetData) → inputs.rowsets ≡ d ∷ [] → HasReadRowset tells seen n at.job inputs bound mark a b → HasReadOne b n w d
+  read_one tells seen a b at inputs bound mark d alone h =
+      let one : h.d ≡ d = one_is h.d d (sym h.alone.1 ∙ alone) in
       let tablet : b.tablet ≡ a.tablet = ap (λ (v : EngineView L D C). v.tablet) h.later.beside in
-      let number : d.number ≡ at.job.rowset = rewritten.number ∙ is.number in
+      subst (HasReadOne b n w) one (record {
+        at = at_then a b at stage.Read (record at.job { stage = stage.Read; bound = bound; mark = mark; inputs = Some inputs; dms = h.dms; read = Some h.d }) refl refl refl h.later;
+        read = refl;
+        is = subst (λ (t : View C). IsRead t at.job.rowset h.dms h.d) (sym tablet) h.is;
+        held = subst (λ (t : View C). files_of h.d.number t.files ≡ Some (held_in h.d)) (sym tablet) h.held;
+      })
+
+  -- what is made of what was read is as it is to be
+  pub made : (v : EngineView L D C) (read d : RowSetData) → HasReadOne v n w read → IsRewritten read d → HasShape w d → IsWhole d → Leaves w (held_in read) (held_in d) → IsMade v n w d
+  made v read d h rewritten shape whole leaves =
+      let is = h.is in
+      let number : d.number ≡ h.at.job.rowset = rewritten.number ∙ is.number in
       record {
-        at = at_then a b at stage.Read (record at.job { stage = stage.Read; bound = h.bound; mark = h.mark; inputs = Some h.inputs; dms = h.dms; read = Some read }) refl refl refl h.later;
+        at = h.at;
         all = record {
-          name = subst (λ (t : View C). dms_in d.number t.names ≡ Some h.dms) (sym tablet) (ap (λ (r : ℕ). dms_in r a.tablet.names) number ∙ is.name);
-          store = subst (λ (t : View C). store_in d ≡ store_in_names d.number t.names t.core.stores) (sym tablet) (rewritten.store ∙ is.store ∙ ap (λ (r : ℕ). store_in_names r a.tablet.names a.tablet.core.stores) (sym number));
+          name = ap (λ (r : ℕ). dms_in r v.tablet.names) number ∙ is.name;
+          store = rewritten.store ∙ is.store ∙ ap (λ (r : ℕ). store_in_names r v.tablet.names v.tablet.core.stores) (sym number);
           fresh = rewritten.fresh;
         };
         shape = shape;
         was = held_in read;
-        there = subst (λ (t : View C). files_of d.number t.files ≡ Some (held_in read)) (sym tablet) (ap (λ (r : ℕ). files_of r a.tablet.files) rewritten.number ∙ h.held);
+        there = ap (λ (r : ℕ). files_of r v.tablet.files) rewritten.number ∙ h.held;
         leaves = leaves;
         read = read;
-        has_read = (refl, refl);
+        has_read = (h.read, refl);
         same = rewritten.store;
         lead = rewritten.lead is.lead;
         whole = whole;
       }
 
-  pub made_result : {E : Type 0} (a b : EngineView L D C) (at : DeltasAt a n w stage.Begun) (read : RowSetData) → ReadsOne a b at read → (r : Result RowSetData E) → IfOk r (IsRewritten read) → IfOk r (HasShape w) → IfOk r IsWhole → IfOk r (λ d. Leaves w (held_in read) (held_in d))
-      → IfOk r (IsMade b n w)
-  made_result a b at read h (Ok d) rewritten shape whole leaves = made a b at read d h rewritten shape whole leaves
-  made_result a b at read h (Err lost) rewritten shape whole leaves = tt
-
--- what memory has of files then is what the published superblock names
-pub filed_after : {L D C : Type 0} {log_tells tells : Bool} {log_seen : L → Files} {seen : D → Files} {faults : D → ℕ} (n : ℕ) (w : Want) (e1 e2 : EngineView L D C) (d : RowSetData) → IsMade e1 n w d → e2.upkeep ≡ e1.upkeep → IsStored log_tells log_seen tells seen faults e2
-    → AreFiled tells (seen e2.store.known) e2.store.meta.rowsets e2.tablet.files
-filed_after {log_tells = log_tells} {tells = tells} {log_seen = log_seen} {seen = seen} {faults = faults} n w e1 e2 d is same stored =
-    filed_now log_tells log_seen tells seen faults e2 stored (ap (λ (u : UpkeepsView). u.publishing) same ∙ is.at.free) e2.store.meta (inl refl)
+-- what memory has of files while no job publishes is what the published superblock names
+pub filed_free : {L D C : Type 0} {log_tells tells : Bool} {log_seen : L → Files} {seen : D → Files} {faults : D → ℕ} (e : EngineView L D C) → e.upkeep.publishing ≡ None → IsStored log_tells log_seen tells seen faults e → AreFiled tells (seen e.store.known) e.store.meta.rowsets e.tablet.files
+filed_free {log_tells = log_tells} {tells = tells} {log_seen = log_seen} {seen = seen} {faults = faults} e free stored = filed_now log_tells log_seen tells seen faults e stored free e.store.meta (inl refl)
 
 -- its want is on a disk rowset
 no_flush : (w : Want) (r : ℕ) → IsOn r w → w ≡ want.Flush → ⊥
@@ -173,13 +159,11 @@ handed_as n job outputs out a b alone h =
 -- ---- its superblock
 
 module _ {L D C : Type 0} (tells : Bool) (seen : D → Files) (now : D → ℕ) (leaves : D → ℕ → Files → Type 0) (faults : D → ℕ) where
-  module _ (a c : EngineView L D C) (d out : RowSetData) (dms : ℕ) (side : IsSide tells seen now leaves faults a.store) (files : HasRewritten tells seen now leaves a.store c.store d out)
-      (old_entry : MetaRowset) (there : entry_of out.number c.store.meta.rowsets ≡ Some old_entry) (keeps : KeepsRowset a.store.next_file c.store.next_file old_entry (meta_in dms out)) where
-    in_place_lent : a_rewritten_rowset_comes_in_place → a_rewritten_rowset_stands_in_place → MayBeLent tells seen now leaves c.store (next_super c) → is_small dms ≡ true → IsWithin c.store.first.most (delta_meta c dms out) → MayBeLent tells seen now leaves c.store (delta_meta c dms out)
+  module _ (v : EngineView L D C) (d out : RowSetData) (dms : ℕ) (side : IsSide tells seen now leaves faults v.store) (files : HasRewritten tells seen now leaves v.store d out)
+      (old_entry : MetaRowset) (there : entry_of out.number v.store.meta.rowsets ≡ Some old_entry) (keeps : KeepsRowset files.first v.store.next_file old_entry (meta_in dms out)) where
+    in_place_lent : a_rewritten_rowset_comes_in_place → a_rewritten_rowset_stands_in_place → MayBeLent tells seen now leaves v.store (next_super v) → is_small dms ≡ true → IsWithin v.store.first.most (delta_meta v dms out) → MayBeLent tells seen now leaves v.store (delta_meta v dms out)
     in_place_lent comes stands may small within =
-        let low : 3 ≤ a.store.next_file = (let x = first_file a.store.meta side.rules in let y = side.files in omega arith) in
-        let old : AreRowsets a.store.meta.next_rowset a.store.meta.next_file 0 [] c.store.meta.rowsets =
-        subst (λ (m : Meta). AreRowsets a.store.meta.next_rowset a.store.meta.next_file 0 [] m.rowsets) (sym files.meta) side.rules.rowsets in
+        let low : 3 ≤ files.first = (let x = first_file v.store.meta side.rules in let y = files.low in omega arith) in
         record {
           next = record {
             rules = record {
@@ -194,77 +178,76 @@ module _ {L D C : Type 0} (tells : Bool) (seen : D → Files) (now : D → ℕ) 
               count = may.next.rules.count;
               columns = may.next.rules.columns;
               schema = may.next.rules.schema;
-              rowsets = comes c.store.meta.rowsets a.store.meta.next_rowset a.store.meta.next_file a.store.next_file c.store.next_rowset c.store.next_file old_entry (meta_in dms out) old may.next.rules.rowsets side.files low there keeps small;
+              rowsets = comes v.store.meta.rowsets v.store.meta.next_rowset v.store.meta.next_file files.first v.store.next_rowset v.store.next_file old_entry (meta_in dms out) side.rules.rowsets may.next.rules.rowsets files.low low there keeps small;
             };
             number = may.next.number;
             rowsets = may.next.rowsets;
             files = may.next.files;
           };
           within = within;
-          files = λ told image left. stands c.store.meta.rowsets a.store.next_file c.store.next_file old_entry (meta_in dms out) (seen c.store.known) image there keeps (files.stable told image left) (may.files told image left);
+          files = λ told image left. stands v.store.meta.rowsets files.first v.store.next_file old_entry (meta_in dms out) (seen v.store.known) image there keeps (files.stable told image left) (may.files told image left);
         }
 
   -- what was written beside the files that stay
-  module _ (n : ℕ) (w : Want) (e0 e1 e2 : EngineView L D C) (d out : RowSetData) (side : IsSide tells seen now leaves faults e0.store) (beside1 : e1 ≡ record e0 { upkeep = e1.upkeep }) (is : IsMade e1 n w d) (q2 : IsQuiet n e1 e2)
-      (files : HasRewritten tells seen now leaves e1.store e2.store d out) (filed : AreFiled tells (seen e2.store.known) e2.store.meta.rowsets e2.tablet.files) where
-    its_side : IsSide tells seen now leaves faults e1.store
-    its_side = subst (IsSide tells seen now leaves faults) (sym (ap (λ (v : EngineView L D C). v.store) beside1)) side
+  module _ (n : ℕ) (w : Want) (v : EngineView L D C) (out : RowSetData) (side : IsSide tells seen now leaves faults v.store) (may : MayHandOne tells seen now leaves v n w out) (filed : AreFiled tells (seen v.store.known) v.store.meta.rowsets v.tablet.files) where
+    abbrev d : RowSetData
+    d = may.d
 
-    its_files : IsFiled tells (seen e2.store.known) e2.store.meta.rowsets d.number is.was
-    its_files = filed d.number is.was (subst (λ (t : View C). files_of d.number t.files ≡ Some is.was) (sym q2.tablet) is.there)
+    abbrev is : IsMade v n w may.d
+    is = may.made
 
-    its_rules : IsOfSuper e1.store.meta.next_rowset e1.store.meta.next_file its_files.entry
-    its_rules = entry_rules e1.store.meta.next_rowset e1.store.meta.next_file 0 d.number [] e1.store.meta.rowsets its_files.entry its_side.rules.rowsets (sym (ap (λ (m : Meta). entry_of d.number m.rowsets) files.meta) ∙ its_files.there)
+    its_files : IsFiled tells (seen v.store.known) v.store.meta.rowsets d.number is.was
+    its_files = filed d.number is.was is.there
+
+    its_rules : IsOfSuper v.store.meta.next_rowset v.store.meta.next_file its_files.entry
+    its_rules = entry_rules v.store.meta.next_rowset v.store.meta.next_file 0 d.number [] v.store.meta.rowsets its_files.entry side.rules.rowsets its_files.there
 
     its_number : out.number ≡ d.number
-    its_number = ap (λ (f : DiskRowset). f.rowset) files.same
+    its_number = ap (λ (f : DiskRowset). f.rowset) may.files.same
 
     named_number : out.number ≡ its_files.entry.rowset
-    named_number = its_number ∙ sym (entry_number d.number its_files.entry e2.store.meta.rowsets its_files.there)
+    named_number = its_number ∙ sym (entry_number d.number its_files.entry v.store.meta.rowsets its_files.there)
 
-    keeps : (dms : ℕ) → KeepsRowset e1.store.next_file e2.store.next_file its_files.entry (meta_in dms out)
-    keeps dms = keeps_rowset e1.store.meta.next_rowset e1.store.meta.next_file its_files.entry its_files.held is.was its_files.names its_files.is its_rules e1.store.next_file e2.store.next_file dms d out files.numbered named_number w is.leaves
+    keeps : (dms : ℕ) → KeepsRowset may.files.first v.store.next_file its_files.entry (meta_in dms out)
+    keeps dms = keeps_rowset v.store.meta.next_rowset v.store.meta.next_file its_files.entry its_files.held is.was its_files.names its_files.is its_rules may.files.first v.store.next_file dms d out may.files.numbered named_number w is.leaves
         (no_flush w d.number is.shape.on) (no_compaction w d.number is.shape.on)
 
-    stays : StayIn w e2.tablet.files out
+    stays : StayIn w v.tablet.files out
     stays = record {
       was = is.was;
-      there = subst (λ (t : View C). files_of out.number t.files ≡ Some is.was) (sym q2.tablet) (ap (λ (r : ℕ). files_of r e1.tablet.files) its_number ∙ is.there);
-      stay = files_stay e1.store.meta.next_rowset e1.store.meta.next_file its_files.entry its_files.held is.was its_files.names its_files.is its_rules e1.store.next_file e2.store.next_file 0 d out files.numbered named_number w is.leaves;
+      there = ap (λ (r : ℕ). files_of r v.tablet.files) its_number ∙ is.there;
+      stay = files_stay v.store.meta.next_rowset v.store.meta.next_file its_files.entry its_files.held is.was its_files.names its_files.is its_rules may.files.first v.store.next_file 0 d out may.files.numbered named_number w is.leaves;
     }
 
-    stand : IsTrue tells → KeptStand (seen e2.store.known) d
-    stand told = kept_stand (seen e2.store.known) its_files.entry its_files.held is.was d its_files.names its_files.is (its_files.holds told) is.whole w is.leaves (no_flush w d.number is.shape.on) (no_compaction w d.number is.shape.on)
+    stand : IsTrue tells → KeptStand (seen v.store.known) d
+    stand told = kept_stand (seen v.store.known) its_files.entry its_files.held is.was d its_files.names its_files.is (its_files.holds told) is.whole w is.leaves (no_flush w d.number is.shape.on) (no_compaction w d.number is.shape.on)
 
-    -- as the job asks it
-    swap_stays : e2.upkeep ≡ e1.upkeep → (j : JobView) → job_of n e2.upkeep ≡ Some j → StayIn j.want e2.tablet.files out
-    swap_stays same j has =
-        let one : is.at.job ≡ j = some_is is.at.job j (sym is.at.has ∙ sym (ap (job_of n) same) ∙ has) in
-        subst (λ (x : Want). StayIn x e2.tablet.files out) (sym is.at.want ∙ ap (λ (x : JobView). x.want) one) stays
-
-    pub swap_gives : (outputs : List RowSetData) → outputs ≡ out ∷ [] → e2.upkeep ≡ e1.upkeep → (j : JobView) → job_of n e2.upkeep ≡ Some j → ByWant j.want (Unit {0}) (λ r. GivesOne j.want e2.tablet.files outputs)
-    swap_gives outputs alone same j has =
-        let one : is.at.job ≡ j = some_is is.at.job j (sym is.at.has ∙ sym (ap (job_of n) same) ∙ has) in
-        let shape : HasShape j.want out = subst (λ (x : Want). HasShape x out) (sym is.at.want ∙ ap (λ (x : JobView). x.want) one) (shape_kept w d out files.same files.fresh is.shape) in
-        as_rowset (Unit {0}) (λ r. GivesOne j.want e2.tablet.files outputs) j.want out.number shape.on (record { d = out; alone = alone; shape = shape; stay = swap_stays same j has })
+    pub swap_gives : (outputs : List RowSetData) → outputs ≡ out ∷ [] → (j : JobView) → job_of n v.upkeep ≡ Some j → ByWant j.want (Unit {0}) (λ r. GivesOne j.want v.tablet.files outputs)
+    swap_gives outputs alone j has =
+        let one : is.at.job ≡ j = some_is is.at.job j (sym is.at.has ∙ has) in
+        let wants : w ≡ j.want = sym is.at.want ∙ ap (λ (x : JobView). x.want) one in
+        let shape : HasShape j.want out = subst (λ (x : Want). HasShape x out) wants (shape_kept w d out may.files.same may.files.fresh is.shape) in
+        as_rowset (Unit {0}) (λ r. GivesOne j.want v.tablet.files outputs) j.want out.number shape.on (record { d = out; alone = alone; shape = shape; stay = subst (λ (x : Want). StayIn x v.tablet.files out) wants stays })
 
   -- the job whose rowset is written and was handed in
-  pub one_written : (n : ℕ) (w : Want) (e0 e1 e2 e3 : EngineView L D C) (d out : RowSetData) → a_rewritten_rowset_comes_in_place → a_rewritten_rowset_stands_in_place → IsSide tells seen now leaves faults e0.store → IsReady e0
-      → IsQuiet n e0 e1 → e1 ≡ record e0 { upkeep = e1.upkeep } → IsMade e1 n w d → IsQuiet n e1 e2 → e2.upkeep ≡ e1.upkeep → HasRewritten tells seen now leaves e1.store e2.store d out
-      → (outputs : List RowSetData) → outputs ≡ out ∷ [] → ((j : JobView) → job_of n e2.upkeep ≡ Some j → HandsIn n j outputs e2 e3) → AreFiled tells (seen e2.store.known) e2.store.meta.rowsets e2.tablet.files → OneIsWritten tells seen now leaves e3 n w
+  pub one_written : (n : ℕ) (w : Want) (v e : EngineView L D C) (out : RowSetData) → a_rewritten_rowset_comes_in_place → a_rewritten_rowset_stands_in_place → IsSide tells seen now leaves faults v.store → IsReady v → MayHandOne tells seen now leaves v n w out
+      → (outputs : List RowSetData) → outputs ≡ out ∷ [] → ((j : JobView) → job_of n v.upkeep ≡ Some j → HandsIn n j outputs v e) → AreFiled tells (seen v.store.known) v.store.meta.rowsets v.tablet.files → OneIsWritten tells seen now leaves e n w
   unfolding stays
-  one_written n w e0 e1 e2 e3 d out comes stands side ready q1 beside1 is q2 same files outputs alone hands filed =
+  one_written n w v e out comes stands side ready may_hand outputs alone hands filed =
+      let is = may_hand.made in
+      let d = may_hand.d in
+      let files = may_hand.files in
       let job = is.at.job in
-      let has : job_of n e2.upkeep ≡ Some job = ap (job_of n) same ∙ is.at.has in
-      let at2 : DeltasAt e2 n w stage.Read = record { job = job; has = has; at = is.at.at; want = is.at.want; on = is.at.on; free = ap (λ (u : UpkeepsView). u.publishing) same ∙ is.at.free; begun = λ e. is.at.begun (sym (ap (λ (u : UpkeepsView). u.begun) same) ∙ e) } in
-      let handed = handed_as n job outputs out e2 e3 alone (by_rowset (HasHandedIn n job outputs e2 e3) (λ r. HasHandedOne n job outputs e2 e3) job.want job.rowset (subst (IsOn job.rowset) (sym is.at.want) is.at.on) (hands job has)) in
+      let handed = handed_as n job outputs out v e alone (by_rowset (HasHandedIn n job outputs v e) (λ r. HasHandedOne n job outputs v e) job.want job.rowset (subst (IsOn job.rowset) (sym is.at.want) is.at.on) (hands job is.at.has)) in
       let h = handed.1 in
-      let store3 : e3.store ≡ e2.store = ap (λ (v : EngineView L D C). v.store) h.beside in
-      let tablet : e3.tablet ≡ e1.tablet = ap (λ (v : EngineView L D C). v.tablet) h.beside ∙ q2.tablet in
-      let written : HasRewritten tells seen now leaves e1.store e3.store d out = subst (λ (s : StoreView D). HasRewritten tells seen now leaves e1.store s d out) (sym store3) files in
+      let store3 : e.store ≡ v.store = ap (λ (x : EngineView L D C). x.store) h.beside in
+      let tablet : e.tablet ≡ v.tablet = ap (λ (x : EngineView L D C). x.tablet) h.beside in
       let number : out.number ≡ d.number = ap (λ (f : DiskRowset). f.rowset) files.same in
-      let entry : MetaRowset = (its_files n w e0 e1 e2 d out side beside1 is q2 files filed).entry in
-      let at3 = at_then n w e2 e3 at2 stage.Written (record job { stage = stage.Written; output = Some out }) refl refl refl h in
+      let entry : MetaRowset = (its_files n w v out side may_hand filed).entry in
+      let at3 = at_then n w v e is.at stage.Written (record job { stage = stage.Written; output = Some out }) refl refl refl h in
+      let lent = subst (λ (x : EngineView L D C). MayBeLent tells seen now leaves x.store (next_super x) → is_small job.dms ≡ true → IsWithin x.store.first.most (delta_meta x job.dms out) → MayBeLent tells seen now leaves x.store (delta_meta x job.dms out)) (sym h.beside)
+      (in_place_lent (record v { upkeep = e.upkeep }) d out job.dms side (record { same = files.same; fresh = files.fresh; first = files.first; low = files.low; numbered = files.numbered; holds = files.holds; stable = files.stable }) entry
+      (ap (λ (r : ℕ). entry_of r v.store.meta.rowsets) number ∙ (its_files n w v out side may_hand filed).there) (keeps n w v out side may_hand filed job.dms) comes stands) in
       record {
         d = out;
         at = at3;
@@ -272,20 +255,18 @@ module _ {L D C : Type 0} (tells : Bool) (seen : D → Files) (now : D → ℕ) 
           at = refl;
           output = refl;
           shape = subst (λ (x : Want). HasShape x out) (sym is.at.want) (shape_kept w d out files.same files.fresh is.shape);
-          stay = subst (λ (x : Want). StayIn x e3.tablet.files out) (sym is.at.want) (subst (λ (t : View C). StayIn w t.files out) (sym (ap (λ (v : EngineView L D C). v.tablet) h.beside)) (stays n w e0 e1 e2 d out side beside1 is q2 files filed));
-          calm = ap (λ (t : View C). t.core.aloft) (tablet ∙ q1.tablet) ∙ ready.calm;
+          stay = subst (λ (x : Want). StayIn x e.tablet.files out) (sym is.at.want) (subst (λ (t : View C). StayIn w t.files out) (sym tablet) (stays n w v out side may_hand filed));
+          calm = ap (λ (t : View C). t.core.aloft) tablet ∙ ready.calm;
           all = record {
-            name = subst (λ (t : View C). dms_in out.number t.names ≡ Some job.dms) (sym tablet) (ap (λ (r : ℕ). dms_in r e1.tablet.names) number ∙ is.all.name);
+            name = subst (λ (t : View C). dms_in out.number t.names ≡ Some job.dms) (sym tablet) (ap (λ (r : ℕ). dms_in r v.tablet.names) number ∙ is.all.name);
             store = subst (λ (t : View C). store_in out ≡ store_in_names out.number t.names t.core.stores) (sym tablet)
-                (files_tell d out files.same is.all.fresh files.fresh ∙ is.all.store ∙ ap (λ (r : ℕ). store_in_names r e1.tablet.names e1.tablet.core.stores) (sym number));
+                (files_tell d out files.same is.all.fresh files.fresh ∙ is.all.store ∙ ap (λ (r : ℕ). store_in_names r v.tablet.names v.tablet.core.stores) (sym number));
             fresh = files.fresh;
           };
           fits = handed.0.0;
           begun = at3.begun;
-          hold = λ told. subst (λ (s : StoreView D). HoldsRowset (seen s.known) (meta_in job.dms out) (held_in out)) (sym store3) (files.holds told (stand n w e0 e1 e2 d out side beside1 is q2 files filed told) job.dms);
-          lent = in_place_lent e1 e3 d out job.dms (its_side n w e0 e1 e2 d out side beside1 is q2 files filed) written entry
-              (subst (λ (s : StoreView D). entry_of out.number s.meta.rowsets ≡ Some entry) (sym store3) (ap (λ (r : ℕ). entry_of r e2.store.meta.rowsets) number ∙ (its_files n w e0 e1 e2 d out side beside1 is q2 files filed).there))
-              (subst (λ (s : StoreView D). KeepsRowset e1.store.next_file s.next_file entry (meta_in job.dms out)) (sym store3) (keeps n w e0 e1 e2 d out side beside1 is q2 files filed job.dms)) comes stands;
+          hold = λ told. subst (λ (s : StoreView D). HoldsRowset (seen s.known) (meta_in job.dms out) (held_in out)) (sym store3) (files.holds told (stand n w v out side may_hand filed told) job.dms);
+          lent = lent;
         };
         gives = record {
           was = is.read;
@@ -294,7 +275,7 @@ module _ {L D C : Type 0} (tells : Bool) (seen : D → Files) (now : D → ℕ) 
           gave = refl;
           same = files_tell d out files.same is.all.fresh files.fresh ∙ is.same;
           shape = subst (λ (x : Want). HasShape x out) (sym is.at.want) (shape_kept w d out files.same files.fresh is.shape);
-          stay = subst (λ (x : Want). FilesStay x (held_in is.read) (held_in out)) (sym is.at.want) (subst (λ (h : HeldFiles). FilesStay w h (held_in out)) is.has_read.1 (stays n w e0 e1 e2 d out side beside1 is q2 files filed).stay);
+          stay = subst (λ (x : Want). FilesStay x (held_in is.read) (held_in out)) (sym is.at.want) (subst (λ (h : HeldFiles). FilesStay w h (held_in out)) is.has_read.1 (stays n w v out side may_hand filed).stay);
         };
       }
 
@@ -362,3 +343,23 @@ module _ {L D C : Type 0} (tells : Bool) (seen : D → Files) (now : D → ℕ) 
         may = subst (MayEndBy d n later) (sym x.may.output) (may_finish job x.d x.may p);
         given = record { want_is = x.at.want; gives = rewritten_for (IsFound d) w job.rowset later x.at.on (gives_published job p.number x.gives) };
       }
+
+-- its superblock may go out
+pub one_to_go : {L D C : Type 0} (tells : Bool) (seen : D → Files) (now : D → ℕ) (leaves : D → ℕ → Files → Type 0) (v : EngineView L D C) (n : ℕ) (w : Want) → OneIsWritten tells seen now leaves v n w → (job : JobView) × ((job_of n v.upkeep ≡ Some job) × MayGoOut tells seen now leaves v job job.output)
+one_to_go tells seen now leaves v n w x = (x.at.job, (x.at.has, subst (MayGoOut tells seen now leaves v x.at.job) (sym x.may.output) x.may))
+
+-- and where it came home published the job may end
+pub one_may_end : {L D C : Type 0} (tells : Bool) (seen : D → Files) (now : D → ℕ) (leaves : D → ℕ → Files → Type 0) (n : ℕ) (c d : EngineView L D C) (w : Want) → OneIsWritten tells seen now leaves c n w → (r : Result (Unit {0}) MaintNo)
+    → ((j : JobView) → job_of n c.upkeep ≡ Some j → OnOk r (IsPublished n j c d)) → OnOk r (MayEnd d n w)
+one_may_end tells seen now leaves n c d w x (Ok done) published = one_ends tells seen now leaves n c d w x published
+one_may_end tells seen now leaves n c d w x (Err e) published = tt
+
+-- with what was read of it
+pub one_read : {L D C : Type 0} (n : ℕ) (w : Want) {s : Stage} {v : EngineView L D C} (at : DeltasAt v n w s) (outputs : List RowSetData) (a b c : EngineView L D C) (r : Result (Unit {0}) MaintNo) → HandsIn n at.job outputs a b
+    → ((j : JobView) → job_of n b.upkeep ≡ Some j → OnOk r (IsPublished n j b c)) → job_of n a.upkeep ≡ Some at.job → OnOk r (KeepsRead n a.upkeep c.upkeep)
+one_read n w at outputs a b c (Err e) hands published had = tt
+one_read n w at outputs a b c (Ok done) hands published had =
+    let h = by_rowset (HasHandedIn n at.job outputs a b) (λ r. HasHandedOne n at.job outputs a b) at.job.want at.job.rowset (subst (IsOn at.job.rowset) (sym at.want) at.on) hands in
+    let written : JobView = record at.job { stage = stage.Written; output = Some h.d } in
+    let p = published written (ap (λ (u : UpkeepView). u.job) h.later.upkeep.own) in
+    record { its = at.job; had = had; job = record written { stage = stage.Published; super = p.number }; has = p.has; same = record { inputs = refl; times = (refl, refl) } }

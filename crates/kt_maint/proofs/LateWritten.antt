@@ -101,7 +101,7 @@ home_with s lent = record s { home = Some lent.device; known = lent.device; hold
 pub few_numbers : (first store went came : ℕ) → store < first + 2 ^ 44 → went ≡ store → came ≤ went + 2 ^ 31 → came ≤ max store (first + most_rowsets)
 few_numbers first store went came near is risen = let right = le-max_right store (first + most_rowsets) in omega (arith, near, is, risen, right)
 
-few_files : (first store went came most : ℕ) → went ≡ store → most ≤ first + most_files → came ≤ max went most → came ≤ max store (first + most_files)
+pub few_files : (first store went came most : ℕ) → went ≡ store → most ≤ first + most_files → came ≤ max went most → came ≤ max store (first + most_files)
 few_files first store went came most is low up = let left = le-max_left store (first + most_files) in let right = le-max_right store (first + most_files) in omega (arith, is, low, up, left, right)
 
 module _ {L D C : Type 0} (tells : Bool) (seen : D → Files) (now : D → ℕ) (leaves : D → ℕ → Files → Type 0) (faults : D → ℕ) (n bound most : ℕ) (lent : Lent D) (r : Result Outputs WriteNo) (e : EngineView L D C)
@@ -143,7 +143,7 @@ module _ {L D C : Type 0} (tells : Bool) (seen : D → Files) (now : D → ℕ) 
   pub may_give_up : IsOutsideFree n e → MayAbandon e n
   may_give_up free = record { job = come.away.job; has = come.away.own; early = subst IsUnpublished (sym come.away.at) tt; free = free come.away.job come.away.own come.away.at }
 
-few_more : (first store went lent came : ℕ) → store < first + 2 ^ 44 → went ≡ store → lent ≤ went + 2 ^ 31 → came ≤ lent + 2 ^ 31 → came ≤ max store (first + most_rowsets)
+pub few_more : (first store went lent came : ℕ) → store < first + 2 ^ 44 → went ≡ store → lent ≤ went + 2 ^ 31 → came ≤ lent + 2 ^ 31 → came ≤ max store (first + most_rowsets)
 few_more first store went lent came near is risen more = let right = le-max_right store (first + most_rowsets) in omega (arith, near, is, risen, more, right)
 
 -- and with what came later

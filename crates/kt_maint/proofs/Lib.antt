@@ -22,7 +22,9 @@ pub mod SinceAdded
 pub mod LateWritten
 pub mod EndLaws
 pub mod GoingOut
+pub mod OneGoes
 pub mod Returns
+pub mod OneOut
 pub mod Backs
 pub mod HandOver
 pub mod Between

@@ -54,7 +54,7 @@ use Rattle.kt_maint.proofs.Written.{last_is, names_written, no_dms}
 
 -- ---- nothing was added
 
-pub none_added : {D : Type 0} (tells : Bool) (seen : D → Files) (now : D → ℕ) (leaves : D → ℕ → Files → Type 0) (faults : D → ℕ) (most : ℕ) (lent : Lent D) → HasAdded tells seen now leaves faults most lent lent (Err write_no.Memory)
+pub none_added : {D A : Type 0} (tells : Bool) (seen : D → Files) (now : D → ℕ) (leaves : D → ℕ → Files → Type 0) (faults : D → ℕ) (most : ℕ) (lent : Lent D) → HasAdded {A = A} tells seen now leaves faults most lent lent (Err write_no.Memory)
 none_added tells seen now leaves faults most lent = record {
   meta = refl;
   up = ((let e : lent.next_rowset ≤ lent.next_rowset = omega arith in e), (let e : lent.next_file ≤ lent.next_file = omega arith in e));

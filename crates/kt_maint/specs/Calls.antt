@@ -12,11 +12,12 @@ use Rattle.kt_engine.specs.Jobs.{JobView, Last, none, nothing, begun, finished, 
 use Rattle.kt_engine.specs.declared.job.MaintNo.{MaintNo}
 use Rattle.kt_engine.specs.declared.job.MaintNo.TheVariants as no
 use Rattle.kt_maint.specs.Done.{FoundBy, HasGiven, HasDoneJob}
-use Rattle.kt_maint.specs.Outside.{IsAway, HasCome, HasReadTheSame, ended}
+use Rattle.kt_maint.specs.Outside.{IsAwayBy, HasReadTheSame, ended}
+use Rattle.kt_maint.specs.Reworks.{HasComeBy}
 use Rattle.kt_maint.specs.declared.jobs.Start.{Start}
 use Rattle.kt_maint.specs.declared.jobs.Start.TheVariants as start
-use Rattle.kt_maint.specs.declared.outside.Outside.{Outside}
-use Rattle.kt_maint.specs.declared.outside.Outcome.{Outcome}
+use Rattle.kt_maint.specs.declared.reworking.Away.{Away}
+use Rattle.kt_maint.specs.declared.reworking.Came.{Came}
 use Rattle.kt_maint.specs.declared.run.Ran.{Ran}
 use Rattle.kt_maint.specs.declared.run.Ran.TheVariants as ran
 use Rattle.kt_maint.specs.declared.tries.Turn.{Turn}
@@ -75,20 +76,21 @@ pub record SameUpkeep {L D C : Type 0} (before after : Option (PartView L D C)) 
 
 -- one try of it in a visit
 abbrev pub AfterTurn : {L D C : Type 0} → Want → Option (PartView L D C) → Option (PartView L D C) → List Event → Turn → Type 0
-AfterTurn w before after seen turn.Done = HasAsked (finished w) before after × HasNoDevice after × HasDoneJob w after
 AfterTurn w before after seen turn.Nothing = HasAsked (nothing w) before after × HasNoDevice after
 AfterTurn w before after seen turn.Wait = SameUpkeep before after × HasNoDevice after
 AfterTurn w before after seen turn.Stopped = (has_stop seen ≡ true) × HasNoDevice after
 AfterTurn w before after seen turn.Memory = HasNoDevice after × (HasNoJob before → HasNoJob after)
 
 -- it asked once more, and its job for this want is outside
-pub record IsBetween {L D C : Type 0} (tells : Bool) (seen : D → Files) (n : ℕ) (w : Want) (out : Outside D) (before after : Option (PartView L D C)) : Type 0 where
+pub record IsBetween {L D C : Type 0} (tells : Bool) (seen : D → Files) (n : ℕ) (w : Want) (out : Away D) (before after : Option (PartView L D C)) : Type 0 where
   pub was : PartView L D C
   pub was_is : before ≡ Some was
   pub part : PartView L D C
   pub is : after ≡ Some part
-  pub away : IsAway tells seen n w out part
-  pub asks : part.pass.upkeep ≡ asked w away.job was.pass.upkeep
+  pub away : IsAwayBy tells seen n w out part
+  pub job : JobView
+  pub want : job.want ≡ w
+  pub asks : part.pass.upkeep ≡ asked w job was.pass.upkeep
 
 -- a try of it in a visit, or the first of its two visits
 abbrev pub AfterStart : {L D C : Type 0} → Bool → (D → Files) → ℕ → Want → Option (PartView L D C) → Option (PartView L D C) → List Event → Start Turn D → Type 0
@@ -96,17 +98,17 @@ AfterStart tells seen n w before after lines (start.Over t) = AfterTurn w before
 AfterStart tells seen n w before after lines (start.Out out) = IsBetween tells seen n w out before after
 
 -- its job is outside
-pub record HasAway {L D C : Type 0} (tells : Bool) (seen : D → Files) (n : ℕ) (out : Outside D) (told : Option (PartView L D C)) : Type 0 where
+pub record HasAway {L D C : Type 0} (tells : Bool) (seen : D → Files) (n : ℕ) (out : Away D) (told : Option (PartView L D C)) : Type 0 where
   pub want : Want
   pub part : PartView L D C
   pub is : told ≡ Some part
-  pub away : IsAway tells seen n want out part
+  pub away : IsAwayBy tells seen n want out part
 
 -- what was written outside comes back to a pass
-pub record ComesTo {L D C : Type 0} (tells : Bool) (seen : D → Files) (now : D → ℕ) (leaves : D → ℕ → Files → Type 0) (faults : D → ℕ) (n : ℕ) (outcome : Outcome D) (told : Option (PartView L D C)) : Type 0 where
+pub record ComesTo {L D C : Type 0} (tells : Bool) (seen : D → Files) (now : D → ℕ) (leaves : D → ℕ → Files → Type 0) (faults : D → ℕ) (n : ℕ) (came : Came D) (told : Option (PartView L D C)) : Type 0 where
   pub part : PartView L D C
   pub is : told ≡ Some part
-  pub come : HasCome tells seen now leaves faults n outcome.bound outcome.most outcome.lent outcome.written part
+  pub come : HasComeBy tells seen now leaves faults n came part
 
 -- its job was outside, and is done with what was read of it
 pub record HasEndedJob {L D C : Type 0} (before after : Option (PartView L D C)) : Type 0 where

@@ -65,12 +65,6 @@ pub record HasBegunNow {L D C : Type 0} (n : ℕ) (w : Want) (old new : EngineVi
   pub ready : IsReady new
   pub line : new.tablet.core.trail ≡ old.tablet.core.trail
 
--- a flush and a compaction go outside the lock, and the others stay in one visit
-abbrev pub StaysInside : Want → Type 0
-StaysInside want.Flush = ⊥
-StaysInside (want.Compact taken) = ⊥
-StaysInside _ = Unit {0}
-
 -- ---- its outputs are written, and may be handed in
 
 -- They hold what the job takes, pass the rules of the table, and may be named behind the disk rowsets that it leaves

@@ -3,6 +3,7 @@ pub mod Runs
 pub mod DeltaRuns
 pub mod JobRuns
 pub mod Outside
+pub mod Reworks
 pub mod Calls
 pub mod Work
 pub mod Points

@@ -1,4 +1,4 @@
--- A flush or a compaction outside the lock: what its pass has between its visits, and what was written meanwhile.
+-- A job outside the lock: what its pass has between its visits, and what a flush or a compaction wrote meanwhile.
 use Rattle.std.specs.Prelude.{◌≡◌, ◌≢◌, ◌≤◌, ◌<◌, ◌+◌, ◌^◌, ℕ, ◌++◌, Bool, true, IsTrue, List, length, map, max, Some, None, Result, Ok, Err, IfOk}
 use Rattle.std.specs.FinMap.Entries.{find}
 use Rattle.kt_base.specs.Causes.{Rose}
@@ -46,6 +46,9 @@ use Rattle.kt_maint.specs.declared.jobs.Start.TheVariants as start
 use Rattle.kt_maint.specs.declared.tries.Turn.{Turn}
 use Rattle.kt_maint.specs.declared.tries.Turn.TheVariants as turn
 use Rattle.kt_maint.specs.declared.outside.Outside.{Outside}
+use Rattle.kt_maint.specs.declared.reworking.Away.{Away}
+use Rattle.kt_maint.specs.declared.reworking.Away.TheVariants as away
+use Rattle.kt_maint.specs.DeltaRuns.{IsAwayOne}
 
 -- ---- what was read
 
@@ -101,6 +104,11 @@ pub record IsAway {L D C : Type 0} (tells : Bool) (seen : D → Files) (n : ℕ)
   pub given : job.first_rowset ≤ store.next_rowset
   pub may : MayWrite tells seen out
   pub well : ReadsWell tells part.root out.input
+
+-- by what it has
+abbrev pub IsAwayBy : {L D C : Type 0} → Bool → (D → Files) → ℕ → Want → Away D → PartView L D C → Type 0
+IsAwayBy tells seen n w (away.Merge out) part = IsAway tells seen n w out part
+IsAwayBy tells seen n w (away.One out) part = IsAwayOne tells seen n w out part
 
 -- ---- what was written
 
@@ -165,7 +173,7 @@ pub record HaveLateFiles {D : Type 0} (tells : Bool) (seen : D → Files) (now :
   pub stable : IsTrue tells → AreStable seen now leaves went.next_file came.next_file came.device
 
 -- the store is as it was but for files of new numbers, and not too many numbers were used
-pub record HasAdded {D : Type 0} (tells : Bool) (seen : D → Files) (now : D → ℕ) (leaves : D → ℕ → Files → Type 0) (faults : D → ℕ) (most : ℕ) (went came : Lent D) (result : Result Outputs WriteNo) : Type 0 where
+pub record HasAdded {D A : Type 0} (tells : Bool) (seen : D → Files) (now : D → ℕ) (leaves : D → ℕ → Files → Type 0) (faults : D → ℕ) (most : ℕ) (went came : Lent D) (result : Result A WriteNo) : Type 0 where
   pub meta : came.meta ≡ went.meta
   pub up : (went.next_rowset ≤ came.next_rowset) × (went.next_file ≤ came.next_file)
   pub risen : came.next_rowset ≤ went.next_rowset + 2 ^ 31
@@ -268,15 +276,17 @@ EndsAs n w old new (Ok done) = HasEnded n w old new × HasNoDevice n new
 EndsAs n w old new (Err no.Memory) = HasNoDevice n new × (job_of n new.upkeep ≡ None)
 EndsAs n w old new (Err no.Stopped) = (new.tablet.core.stopped ≡ true) × HasNoDevice n new
 
--- how the flush or the compaction of a pass, which has begun, left the lock: it is outside, or is given up
+-- how the job of a pass, which has begun, left the lock: it is outside, or is given up
 abbrev pub LeftAs : {L D C : Type 0} → Bool → (D → Files) → ℕ → Want → EngineView L D C → EngineView L D C → Start Turn D → Type 0
 LeftAs tells seen n w old new (start.Over t) = (t ≡ turn.Memory) × HasNoDevice n new × (job_of n new.upkeep ≡ None)
-LeftAs tells seen n w old new (start.Out out) = IsAway tells seen n w out (part_in new n) × KeepsAsks n old.upkeep new.upkeep
+LeftAs tells seen n w old new (start.Out out) = IsAwayBy tells seen n w out (part_in new n) × KeepsAsks n old.upkeep new.upkeep
 
 -- it has asked once more, and its job is outside
-pub record GoesOut {L D C : Type 0} (tells : Bool) (seen : D → Files) (n : ℕ) (w : Want) (out : Outside D) (old new : EngineView L D C) : Type 0 where
-  pub away : IsAway tells seen n w out (part_in new n)
-  pub asks : upkeep_at n new.upkeep.passes ≡ asked w away.job (upkeep_at n old.upkeep.passes)
+pub record GoesOut {L D C : Type 0} (tells : Bool) (seen : D → Files) (n : ℕ) (w : Want) (out : Away D) (old new : EngineView L D C) : Type 0 where
+  pub away : IsAwayBy tells seen n w out (part_in new n)
+  pub job : JobView
+  pub want : job.want ≡ w
+  pub asks : upkeep_at n new.upkeep.passes ≡ asked w job (upkeep_at n old.upkeep.passes)
 
 -- how a try for a job in a visit ended
 abbrev pub StartsAs : {L D C : Type 0} → Bool → (D → Files) → ℕ → Want → EngineView L D C → EngineView L D C → Start Turn D → Type 0

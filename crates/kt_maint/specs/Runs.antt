@@ -14,15 +14,12 @@ use Rattle.kt_outputs.specs.Outputs.{meta_in}
 use Rattle.kt_storeside.specs.declared.side.Lent.{Lent}
 use Rattle.kt_storeside.specs.Sides.{StoreView}
 use Rattle.kt_pick.specs.declared.rules.Want.{Want}
-use Rattle.kt_engine.specs.Engines.{EngineView, IsFound}
+use Rattle.kt_engine.specs.Engines.{EngineView}
 use Rattle.kt_engine.specs.Visits.{IsVisit}
 use Rattle.kt_engine.specs.declared.upkeep.Stage.{Stage}
 use Rattle.kt_engine.specs.declared.upkeep.Stage.TheVariants as stage
-use Rattle.kt_engine.specs.declared.job.MaintNo.{MaintNo}
-use Rattle.kt_engine.specs.declared.job.MaintNo.TheVariants as no
-use Rattle.kt_engine.specs.Jobs.{JobView, UpkeepView, UpkeepsView, finished, IsUnpublished, asked_for_nothing, without_want, job_of, upkeep_at, more}
+use Rattle.kt_engine.specs.Jobs.{JobView, UpkeepsView, IsUnpublished, asked_for_nothing, job_of, upkeep_at}
 use Rattle.kt_engine.specs.JobSteps.{IsMerge, TakesInputs}
-use Rattle.kt_maint.specs.Done.{HasGiven}
 use Rattle.kt_maint.specs.declared.ready.Ready.{Ready}
 use Rattle.kt_maint.specs.declared.ready.Ready.TheVariants as ready
 use Rattle.kt_maint.specs.declared.tries.Turn.{Turn}
@@ -148,24 +145,8 @@ pub record JobHas {L D C : Type 0} (v : EngineView L D C) (n : ℕ) (s : Stage) 
   pub room : length v.tablet.core.stores + length out ≤ at.job.room + v.tablet.frozen + 1
   pub few : length v.tablet.core.stores + length out < 2 ^ 32
 
--- how a job that does not go on ends a try
-abbrev pub turn_of : MaintNo → Turn
-turn_of no.Stopped = turn.Stopped
-turn_of no.Memory = turn.Memory
-
--- the pass asked, and the job that began is done
-abbrev pub ran : Want → JobView → UpkeepView → UpkeepView
-ran w job u = record u { asks = more (2 ^ 64 - 1) u.asks; last = finished w; todo = without_want w u.todo; job = None; done = Some job }
-
--- and it has given what was asked
-pub record HasRun {L D C : Type 0} (n : ℕ) (w : Want) (old new : EngineView L D C) : Type 0 where
-  pub job : JobView
-  pub upkeep : upkeep_at n new.upkeep.passes ≡ ran w job (upkeep_at n old.upkeep.passes)
-  pub given : HasGiven (IsFound new) w job
-
--- how a try for a job ended
+-- how a try for a job ended that does not go outside
 abbrev pub RunsAs : {L D C : Type 0} → ℕ → Want → EngineView L D C → EngineView L D C → Turn → Type 0
-RunsAs n w old new turn.Done = HasRun n w old new × HasNoDevice n new
 RunsAs n w old new turn.Nothing = (upkeep_at n new.upkeep.passes ≡ asked_for_nothing w (upkeep_at n old.upkeep.passes)) × (job_of n new.upkeep ≡ None) × HasNoDevice n new
 RunsAs n w old new turn.Wait = (upkeep_at n new.upkeep.passes ≡ upkeep_at n old.upkeep.passes) × HasNoDevice n new
 RunsAs n w old new turn.Memory = HasNoDevice n new × (job_of n old.upkeep ≡ None → job_of n new.upkeep ≡ None)

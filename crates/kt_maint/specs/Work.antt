@@ -9,7 +9,7 @@ use Rattle.kt_engine.specs.Jobs.{job_of}
 use Rattle.kt_engine.specs.Stats.{AreStats}
 use Rattle.kt_engine.specs.Visits.{part_in}
 use Rattle.kt_maint.specs.Runs.{HasNoDevice}
-use Rattle.kt_maint.specs.Outside.{IsAway}
+use Rattle.kt_maint.specs.Outside.{IsAwayBy}
 use Rattle.kt_maint.specs.declared.jobs.Start.{Start}
 use Rattle.kt_maint.specs.declared.jobs.Start.TheVariants as start
 
@@ -22,7 +22,7 @@ pub record Picks {L D C : Type 0} (v : EngineView L D C) (picked : Option Want) 
 -- what a visit left of the devices: its pass has neither, or a job is outside with the store
 abbrev pub TookAs : {T L D C : Type 0} → Bool → (D → Files) → ℕ → EngineView L D C → Start T D → Type 0
 TookAs tells seen n v (start.Over t) = HasNoDevice n v
-TookAs tells seen n v (start.Out out) = (w : Want) × IsAway tells seen n w out (part_in v n)
+TookAs tells seen n v (start.Out out) = (w : Want) × IsAwayBy tells seen n w out (part_in v n)
 
 -- and of the job of a pass that had none: it has none, unless the tablet has stopped, or its job is outside
 abbrev pub LeftNone : {T L D C : Type 0} → ℕ → EngineView L D C → EngineView L D C → Start T D → Type 0

@@ -28,8 +28,8 @@ use kt_outputs::laws::{
 use kt_storeside::Lent;
 use std::alloc::Global;
 
-// Takes the store home, which was written to.
-fn take_home<L: Disk, D: Disk + Drop, C: Clock>(
+/// Takes the store home, which was written to.
+pub(crate) fn take_home<L: Disk, D: Disk + Drop, C: Clock>(
     engine: &mut Engine<L, D, C>,
     by: u32,
     lent: Lent<D>,
@@ -73,8 +73,12 @@ pub fn let_go<L: Disk, D: Disk + Drop, C: Clock>(engine: &mut Engine<L, D, C>, b
     engine.job_abandon(by);
 }
 
-// Gives the job up, and takes the store home.
-fn give_up<L: Disk, D: Disk + Drop, C: Clock>(engine: &mut Engine<L, D, C>, by: u32, lent: Lent<D>)
+/// Gives the job up, and takes the store home.
+pub(crate) fn give_up<L: Disk, D: Disk + Drop, C: Clock>(
+    engine: &mut Engine<L, D, C>,
+    by: u32,
+    lent: Lent<D>,
+)
     requires out { engine.old.store.holder ≡ Some by }
     requires may { MayComeHome D.tells D.seen D.now D.leaves D.faults engine.old.first_rowset engine.old.first_file engine.old.store lent }
     requires job { MayAbandon engine.old by }
@@ -87,8 +91,8 @@ fn give_up<L: Disk, D: Disk + Drop, C: Clock>(engine: &mut Engine<L, D, C>, by: 
     let_go(engine, by);
 }
 
-// The same after a write that failed: for want of memory the job is given up, and after a fault the tablet is stopped.
-fn fail<L: Disk, D: Disk + Drop, C: Clock>(
+/// The same after a write that failed: for want of memory the job is given up, and after a fault the tablet is stopped.
+pub(crate) fn fail<L: Disk, D: Disk + Drop, C: Clock>(
     engine: &mut Engine<L, D, C>,
     by: u32,
     lent: Lent<D>,

@@ -1,21 +1,21 @@
-//! A job from its begin on: all wants pass the same steps, and differ in what they write and in whether they do it in one visit.
-ghost use Rattle.std.specs.Prelude.{◌≡◌, ◌≢◌, true, None, OnOk, IfErr, Err};
+//! A job up to where it leaves the lock.
+ghost use Rattle.std.specs.Prelude.{◌≡◌, OnOk, IfErr};
 ghost use Rattle.kt_engine.specs.Visits.{IsVisit};
 ghost use Rattle.kt_pick.specs.declared.rules.Want.{Want as WantSpec};
-ghost use Rattle.kt_maint.specs.Runs.{KeepsAsks, IsQuiet, IsReady, RunsAs, HasNoDevice, MayAbandon, StandsAs};
-ghost use Rattle.kt_maint.specs.JobRuns.{StaysInside, BeginsBy, HasBegunNow, IsWrittenBy, MayEnd, MergeBegins};
-ghost use Rattle.kt_maint.specs.Outside.{EndsAs, StartsAs, LeftAs};
+ghost use Rattle.kt_engine.specs.declared.upkeep.Stage.TheVariants as stage;
+ghost use Rattle.kt_maint.specs.DeltaRuns.{DeltasAt};
+ghost use Rattle.kt_maint.specs.Runs.{IsReady, RunsAs, HasNoDevice, StandsAs};
+ghost use Rattle.kt_maint.specs.JobRuns.{HasBegunNow, MergeBegins};
+ghost use Rattle.kt_maint.specs.Outside.{StartsAs, LeftAs};
 
-use crate::deltas::write_made;
-use crate::ending::{close, let_go};
-use crate::leaving::go_out;
-use crate::outside::Outside;
-use crate::publishing::publish_job;
+use crate::ending::let_go;
+use crate::leaving::{go_out, go_out_one};
 use crate::ready::{Ready, make_ready};
+use crate::reworking::Away;
 use crate::tries::Turn;
 use kt_base::{Clock, NoMemory};
 use kt_disk::Disk;
-use kt_engine::{Engine, JobNo, MaintNo};
+use kt_engine::{Engine, JobNo};
 use kt_pick::Want;
 use std::alloc::Global;
 
@@ -24,77 +24,8 @@ use std::alloc::Global;
 pub enum Start<T, D> {
     /// It is over so.
     Over(T),
-    /// A flush or a compaction goes on outside the lock.
-    Out(Outside<D>),
-}
-
-// The job of this pass, which has begun and stays in one visit, up to its outputs written and handed in.
-fn make_outputs<L: Disk, D: Disk + Drop, C: Clock>(
-    alloc: Global,
-    engine: &mut Engine<L, D, C>,
-    by: u32,
-    want: &Want,
-) -> Result<(), MaintNo>
-    requires inside { StaysInside want.now }
-    requires begun { BeginsBy engine.old by want.now }
-    requires calm { IsReady engine.old }
-    ensures visit { IsVisit by engine.old engine.new }
-    ensures still { StandsAs by engine.old engine.new }
-    ensures quiet { result ≢ Err MaintNo.Stopped → IsQuiet by engine.old engine.new }
-    ensures log { engine.new.log ≡ engine.old.log }
-    ensures written { OnOk result (IsWrittenBy D.tells D.seen D.now D.leaves engine.new by want.now) }
-    ensures memory { result ≡ Err MaintNo.Memory → MayAbandon engine.new by }
-    ensures stops { result ≡ Err MaintNo.Stopped → engine.new.tablet.core.stopped ≡ true }
-    ensures home { engine.new.store.holder ≡ None }
-{
-    match want {
-        Want::FlushDeltas(_) | Want::Minor(_) | Want::Major(_) => {
-            write_made(alloc, engine, by, want)
-        }
-        // They go outside.
-        Want::Flush | Want::Compact(_) => unreachable!(),
-    }
-}
-
-// The same up to its published superblock.
-fn carry_out<L: Disk, D: Disk + Drop, C: Clock>(
-    alloc: Global,
-    engine: &mut Engine<L, D, C>,
-    by: u32,
-    want: &Want,
-) -> Result<(), MaintNo>
-    requires inside { StaysInside want.now }
-    requires begun { BeginsBy engine.old by want.now }
-    requires calm { IsReady engine.old }
-    ensures visit { IsVisit by engine.old engine.new }
-    ensures still { StandsAs by engine.old engine.new }
-    ensures log { engine.new.log ≡ engine.old.log }
-    ensures asks { result ≢ Err MaintNo.Stopped → KeepsAsks by engine.old.upkeep engine.new.upkeep }
-    ensures published { OnOk result (MayEnd engine.new by want.now) }
-    ensures memory { result ≡ Err MaintNo.Memory → MayAbandon engine.new by }
-    ensures stops { result ≡ Err MaintNo.Stopped → engine.new.tablet.core.stopped ≡ true }
-    ensures home { engine.new.store.holder ≡ None }
-{
-    make_outputs(alloc, engine, by, want)?;
-    publish_job(alloc, engine, by)
-}
-
-// The job of this pass, which has begun and stays in one visit, up to its end.
-fn run_inside<L: Disk, D: Disk + Drop, C: Clock>(
-    alloc: Global,
-    engine: &mut Engine<L, D, C>,
-    by: u32,
-    want: &Want,
-) -> Result<(), MaintNo>
-    requires inside { StaysInside want.now }
-    requires begun { BeginsBy engine.old by want.now }
-    requires calm { IsReady engine.old }
-    ensures visit { IsVisit by engine.old engine.new }
-    ensures still { StandsAs by engine.old engine.new }
-    ensures ends { EndsAs by want.now engine.old engine.new result }
-{
-    let carried = carry_out(alloc, engine, by, want);
-    close(engine, by, carried)
+    /// A job goes on outside the lock.
+    Out(Away<D>),
 }
 
 // The flush or the compaction of this pass, which has begun, goes outside, or is given up for want of memory.
@@ -110,7 +41,29 @@ fn leave_now<L: Disk, D: Disk + Drop, C: Clock>(
     ensures left { (want : WantSpec) → MergeBegins engine.old by want → LeftAs D.tells D.seen by want engine.old engine.new result }
 {
     match go_out(alloc, engine, by) {
-        Ok(out) => Start::Out(out),
+        Ok(out) => Start::Out(Away::Merge(out)),
+        Err(NoMemory) => {
+            let_go(engine, by);
+            Start::Over(Turn::Memory)
+        }
+    }
+}
+
+// The same of a job on the files of a disk rowset.
+fn leave_one<L: Disk, D: Disk + Drop, C: Clock>(
+    alloc: Global,
+    engine: &mut Engine<L, D, C>,
+    by: u32,
+    want: Want,
+) -> Start<Turn, D>
+    requires begun { DeltasAt engine.old by want stage.Begun }
+    requires calm { IsReady engine.old }
+    ensures visit { IsVisit by engine.old engine.new }
+    ensures still { StandsAs by engine.old engine.new }
+    ensures left { LeftAs D.tells D.seen by want engine.old engine.new result }
+{
+    match go_out_one(alloc, engine, by, want) {
+        Ok(out) => Start::Out(Away::One(out)),
         Err(NoMemory) => {
             let_go(engine, by);
             Start::Over(Turn::Memory)
@@ -150,8 +103,8 @@ fn begin_now<L: Disk, D: Disk + Drop, C: Clock>(
     }
 }
 
-/// Tries a job in this visit: a flush or a compaction goes on outside the lock, and the others are run to their end. Where something is under way nothing is begun, and the
-/// log is at home with less to append. A pass that has a job begins no other and is answered as for want of memory.
+/// Tries a job in this visit, which goes on outside the lock. Where something is under way nothing is begun, and the log is at home with less to append. A pass that
+/// has a job begins no other and is answered as for want of memory.
 pub fn start_now<L: Disk, D: Disk + Drop, C: Clock>(
     alloc: Global,
     engine: &mut Engine<L, D, C>,
@@ -169,11 +122,8 @@ pub fn start_now<L: Disk, D: Disk + Drop, C: Clock>(
     }
     match want {
         Want::Flush | Want::Compact(_) => leave_now(alloc, engine, by),
-        Want::FlushDeltas(_) | Want::Minor(_) | Want::Major(_) => {
-            match run_inside(alloc, engine, by, want) {
-                Ok(()) => Start::Over(Turn::Done),
-                Err(no) => Start::Over(Turn::from(no)),
-            }
-        }
+        Want::FlushDeltas(rowset) => leave_one(alloc, engine, by, Want::FlushDeltas(*rowset)),
+        Want::Minor(rowset) => leave_one(alloc, engine, by, Want::Minor(*rowset)),
+        Want::Major(rowset) => leave_one(alloc, engine, by, Want::Major(*rowset)),
     }
 }

@@ -134,7 +134,8 @@ pub fn put_late<L: Disk, D: Disk + Drop, C: Clock>(
         }
         Ok(Returned::Mems(mems)) => write_since(alloc, lent, most, outputs, mems, bound),
         Err(JobWait::Memory) => Err(WriteNo::Memory),
-        // The tablet goes on, and nothing flies.
+        // It merges, the tablet goes on, and nothing flies.
+        Ok(Returned::Rowset(_)) => unreachable!(),
         Err(JobWait::Stopped) => unreachable!(),
         Err(JobWait::NotYet { ts: _ }) => unreachable!(),
     }

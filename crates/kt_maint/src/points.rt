@@ -1,6 +1,5 @@
 //! The points of a job, at which the gate of a run is called.
 ghost use Rattle.std.specs.Prelude.{OnOk};
-ghost use Rattle.kt_maint.specs.Points.{HasTold};
 
 use kt_disk::{Gate, Point};
 use kt_engine::MaintNo;
@@ -24,13 +23,4 @@ pub fn tell_ended<G: Gate>(gate: &G, job: u32, ended: &Result<(), MaintNo>)
         }
         Err(_) => {}
     }
-}
-
-/// The job is done, in one visit: its points are told behind that visit.
-pub fn tell_done<G: Gate>(gate: &G, job: u32)
-    ensures { HasTold (G.came gate.now) job }
-{
-    gate.at(Point::PhaseOne { job });
-    gate.at(Point::Swapped { job });
-    gate.at(Point::Published { job });
 }

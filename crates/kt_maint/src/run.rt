@@ -1,4 +1,4 @@
-//! Calls for one job, each in a visit of the lock in which nothing is under way, and a flush or a compaction in two.
+//! Calls for one job, each in two visits of the lock.
 ghost use Rattle.std.specs.Prelude.{◌≡◌, ℕ, false, [], None, Some, Ok, OnOk};
 ghost use Rattle.kt_seatlock.specs.Passes.{number, seen, part, got, MayEnter, IsBack, IsSamePass, IsAsFull};
 ghost use Rattle.kt_pick.specs.declared.rules.Want.TheVariants as want;
@@ -7,10 +7,10 @@ ghost use Rattle.kt_engine.specs.Visits.{part_in};
 ghost use Rattle.kt_maint.specs.Calls.{AfterCall, AfterEnd, AfterStart, ComesTo, HasAway, ran_of};
 ghost use Rattle.kt_maint.specs.Points.{HasTold};
 
-use crate::ending::end_now;
+use crate::endings::end_away;
 use crate::jobs::{Start, start_now};
-use crate::outside::{Outcome, Outside, write_outside};
-use crate::points::{tell_done, tell_ended, tell_written};
+use crate::points::{tell_ended, tell_written};
+use crate::reworking::{Away, Came, work_outside};
 use crate::tries::Turn;
 use kt_base::Clock;
 use kt_disk::{Disk, Gate, Point};
@@ -91,16 +91,16 @@ fn enter_quiet<L: Disk, D: Disk + Drop, C: Clock, R: Wait>(
     unreachable!()
 }
 
-/// The last visit of a flush or a compaction of this pass that was outside the lock, with what was written there.
+/// The last visit of a job of this pass that was outside the lock, with what was written there.
 pub fn end_job<L: Disk, D: Disk + Drop, C: Clock, R: Wait>(
     rt: &R,
     alloc: Global,
     lock: &SeatLock<Engine<L, D, C>>,
     pass: &mut Pass<Engine<L, D, C>>,
-    outcome: Outcome<D>,
+    came: Came<D>,
 ) -> Result<(), MaintNo>
     requires enters { MayEnter lock.now pass.old }
-    requires comes { ComesTo D.tells D.seen D.now D.leaves D.faults (number pass.old) outcome (part pass.old) }
+    requires comes { ComesTo D.tells D.seen D.now D.leaves D.faults (number pass.old) came (part pass.old) }
     ensures pass { IsBack pass.old pass.new }
     ensures still { StandsStill (part pass.old) (part pass.new) }
     ensures quiet { SeesOthers (number pass.old) (seen pass.old) (seen pass.new) }
@@ -108,20 +108,20 @@ pub fn end_job<L: Disk, D: Disk + Drop, C: Clock, R: Wait>(
 {
     let by = pass.number();
     let mut engine = enter_quiet(rt, lock, pass);
-    let ended = end_now(alloc, &mut engine, by, outcome);
+    let ended = end_away(alloc, &mut engine, by, came);
     // Its lines tell whether the tablet has stopped.
     engine.standing();
     lock.leave(pass, engine);
     ended
 }
 
-/// What a flush or a compaction of this pass does outside the lock, and its last visit. The gate is called behind either, for the job of that number.
+/// What a job of this pass does outside the lock, and its last visit. The gate is called behind either, for the job of that number.
 pub fn end_outside<L: Disk, D: Disk + Drop, C: Clock, R: Wait, G: Gate>(
     rt: &R,
     alloc: Global,
     lock: &SeatLock<Engine<L, D, C>>,
     pass: &mut Pass<Engine<L, D, C>>,
-    out: Outside<D>,
+    out: Away<D>,
     job: u32,
     gate: &G,
 ) -> Result<(), MaintNo>
@@ -134,9 +134,9 @@ pub fn end_outside<L: Disk, D: Disk + Drop, C: Clock, R: Wait, G: Gate>(
     ensures written { G.came gate.now (Point.PhaseOne job) }
     ensures done { OnOk result (HasTold (G.came gate.now) job) }
 {
-    let outcome = write_outside(alloc, out);
+    let came = work_outside(alloc, out);
     tell_written(gate, job);
-    let ended = end_job(rt, alloc, lock, pass, outcome);
+    let ended = end_job(rt, alloc, lock, pass, came);
     tell_ended(gate, job, &ended);
     ended
 }
@@ -151,7 +151,7 @@ fn answer(ended: Result<(), MaintNo>) -> Result<Ran, MaintNo>
     }
 }
 
-/// Runs a job for a want: a flush or a compaction in two visits, and the others in one. It waits until nothing is under way. For want of memory nothing is changed but that the rows in memory are frozen. A pass that has a job
+/// Runs a job for a want in two visits, between which it writes outside the lock. It waits until nothing is under way. For want of memory nothing is changed but that the rows in memory are frozen. A pass that has a job
 /// is answered as for want of memory. The gate is called at the points of the job, outside the lock.
 pub fn run_job<L: Disk, D: Disk + Drop, C: Clock, R: Wait, G: Gate>(
     rt: &R,
@@ -172,10 +172,6 @@ pub fn run_job<L: Disk, D: Disk + Drop, C: Clock, R: Wait, G: Gate>(
     'tries: for _ in rt.forever() {
         let mut job = 0;
         match try_job(rt, alloc, lock, pass, want, &mut job) {
-            Start::Over(Turn::Done) => {
-                tell_done(gate, job);
-                return Ok(Ran::Done);
-            }
             Start::Over(Turn::Nothing) => return Ok(Ran::Nothing),
             Start::Over(Turn::Stopped) => return Err(MaintNo::Stopped),
             Start::Over(Turn::Memory) => return Err(MaintNo::Memory),

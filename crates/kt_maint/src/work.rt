@@ -10,8 +10,7 @@ ghost use Rattle.kt_maint.specs.Runs.{HasNoDevice as PassHasNone, StandsAs};
 ghost use Rattle.kt_maint.specs.Work.{LeftNone, Picks, TookAs};
 
 use crate::jobs::{Start, start_now};
-use crate::outside::Outside;
-use crate::points::tell_done;
+use crate::reworking::Away;
 use crate::run::end_outside;
 use crate::tries::Turn;
 use kt_base::{Clock, NoMemory};
@@ -149,10 +148,10 @@ fn run_found<L: Disk, D: Disk + Drop, C: Clock>(
     ensures took { TookAs D.tells D.seen by engine.new result }
     ensures none { LeftNone by engine.old engine.new result }
     ensures tried { (result ≢ start.Over Step.Busy) × (result ≢ start.Over Step.Idle) }
+    ensures worked { result ≢ start.Over Step.Worked }
 {
     match start_now(alloc, engine, by, want) {
         Start::Out(out) => Start::Out(out),
-        Start::Over(Turn::Done) => Start::Over(Step::Worked),
         Start::Over(Turn::Nothing) => Start::Over(Step::Tried),
         Start::Over(Turn::Wait) => {
             *watch = None;
@@ -162,7 +161,7 @@ fn run_found<L: Disk, D: Disk + Drop, C: Clock>(
     }
 }
 
-// Looks where a rule may apply and nothing is under way, and runs the job of the first that does, or begins it where it goes on outside.
+// Looks where a rule may apply and nothing is under way, and begins the job of the first that does, which goes on outside.
 fn turn<L: Disk, D: Disk + Drop, C: Clock>(
     alloc: Global,
     engine: &mut Engine<L, D, C>,
@@ -175,6 +174,7 @@ fn turn<L: Disk, D: Disk + Drop, C: Clock>(
     ensures took { TookAs D.tells D.seen by engine.new result }
     ensures none { LeftNone by engine.old engine.new result }
     ensures same { (result ≡ start.Over Step.Busy) ⊎ (result ≡ start.Over Step.Idle) → engine.new ≡ engine.old }
+    ensures worked { result ≢ start.Over Step.Worked }
 {
     if engine.over() || engine.is_stopped() {
         return Start::Over(Step::Over);
@@ -193,16 +193,6 @@ fn turn<L: Disk, D: Disk + Drop, C: Clock>(
     match want {
         Some(want) => run_found(alloc, engine, by, &want, watch),
         None => Start::Over(Step::Idle),
-    }
-}
-
-// Calls the gate at the points of a job that was run in the visit of a turn.
-fn tell<G: Gate>(gate: &G, job: u32, step: Step)
-    ensures { step ≡ Step.Worked → HasTold (G.came gate.now) job }
-{
-    match step {
-        Step::Worked => tell_done(gate, job),
-        Step::Tried | Step::Busy | Step::Idle | Step::Over => {}
     }
 }
 
@@ -234,7 +224,7 @@ fn finish<L: Disk, D: Disk + Drop, C: Clock, R: Wait, G: Gate>(
     alloc: Global,
     lock: &SeatLock<Engine<L, D, C>>,
     pass: &mut Pass<Engine<L, D, C>>,
-    out: Outside<D>,
+    out: Away<D>,
     job: u32,
     gate: &G,
 ) -> Step
@@ -280,7 +270,6 @@ fn take_step<L: Disk, D: Disk + Drop, C: Clock, R: Wait, G: Gate>(
     lock.leave_as(pass, engine, changes(&took));
     match took {
         Start::Over(step) => {
-            tell(gate, job, step);
             wait(rt, lock, pass, step);
             step
         }

@@ -1,5 +1,6 @@
 use Rattle.std.proofs.Common.{Err, ap, subst, ◌∙◌}
 use Rattle.kt_base.specs.Causes.{Rose}
+use Rattle.kt_engine.proofs.Outsiders.{out_free}
 use Rattle.kt_maint.specs.Outside.{HasCome}
 use Rattle.kt_maint.specs.Runs.{is_pass}
 use Rattle.kt_engine.specs.Visits.{part_in}
@@ -19,7 +20,7 @@ fail-requires-clause-may g c = may_come_home g.D.Disk.tells g.D.Disk.seen g.D.Di
 
 pub fail-requires-clause-job : goal.fail-requires-clause-job
 fail-requires-clause-job g c =
-    may_give_up g.D.Disk.tells g.D.Disk.seen g.D.Disk.now g.D.Disk.leaves g.D.Disk.faults c.args.by c.args.outcome.bound c.args.outcome.most c.args.outcome.lent _ c.args.engine.now c.requires.come (λ job has at. (c.standing.ensures.stored.outside c.args.by job has at).free.0)
+    may_give_up g.D.Disk.tells g.D.Disk.seen g.D.Disk.now g.D.Disk.leaves g.D.Disk.faults c.args.by c.args.outcome.bound c.args.outcome.most c.args.outcome.lent _ c.args.engine.now c.requires.come (λ job has at. (out_free _ _ _ _ _ job (c.standing.ensures.stored.outside c.args.by job has at)).0)
 
 pub fail-requires-clause-rose : goal.fail-requires-clause-rose
 fail-requires-clause-rose g c = λ is.

@@ -1,6 +1,7 @@
 use Rattle.std.proofs.Common.{sym, ap, subst, ◌∙◌}
 use Rattle.std.specs.Prelude.{OnOk}
 use Rattle.kt_engine.specs.Jobs.{job_of}
+use Rattle.kt_engine.proofs.Outsiders.{out_free}
 use Rattle.kt_maint.specs.Outside.{EndsRead}
 use Rattle.kt_maint.specs.Runs.{is_pass}
 use Rattle.kt_maint.proofs.Begun.{ends_then}
@@ -77,7 +78,7 @@ give_up-requires-clause-may g c =
 pub give_up-requires-clause-job : goal.give_up-requires-clause-job
 give_up-requires-clause-job g c =
     abandon_same c.args.by c.args.engine.now c.append_waiting.new.engine c.in-Memory.ensures.settles.2
-    (may_give_up g.D.Disk.tells g.D.Disk.seen g.D.Disk.now g.D.Disk.leaves g.D.Disk.faults c.args.by c.args.bound c.args.most c.args.lent _ c.args.engine.now c.requires.come (λ job has at. (c.standing.ensures.stored.outside c.args.by job has at).free.0))
+    (may_give_up g.D.Disk.tells g.D.Disk.seen g.D.Disk.now g.D.Disk.leaves g.D.Disk.faults c.args.by c.args.bound c.args.most c.args.lent _ c.args.engine.now c.requires.come (λ job has at. (out_free _ _ _ _ _ job (c.standing.ensures.stored.outside c.args.by job has at)).0))
 
 pub returns-in-Memory-clause-visit : goal.returns-in-Memory-clause-visit
 returns-in-Memory-clause-visit g c = visits_then c.args.by c.args.engine.now c.append_waiting.new.engine c.give_up.new.engine c.append_waiting.ensures.visit (ap (λ t. t.core.trail) c.in-Memory.ensures.settles.0) c.give_up.ensures.visit

@@ -1,5 +1,8 @@
 use Rattle.std.proofs.Common.{◌≡◌, Err, None, Some, inl, refl, sym, ap, subst, ◌∙◌}
+use Rattle.kt_engine.specs.JobSteps.{TakesInputs}
 use Rattle.kt_engine.specs.Outside.{job_out}
+use Rattle.kt_engine.specs.Returning.{LeavesAs, LeavesOne}
+use Rattle.kt_engine.proofs.JobCalls.{as_merge}
 use Rattle.kt_maint.specs.Runs.{MayAbandon}
 use Rattle.kt_maint.proofs.GoingOut.{went_as, out_at, leaves_as, is_away, read_abandon, went_quiet}
 use Rattle.kt_maint.proofs.leaving.go_out.Goals as goal
@@ -34,8 +37,11 @@ job_leave-requires-clause-stage g c =
     let lent = c.in-Ok.lent in
     let e = c.in-Ok.ensures in
     let went = went_as g.D.Disk.tells g.D.Disk.seen g.D.Disk.now g.D.Disk.leaves g.D.Disk.faults by c.requires.begun.0 a b d input lent c.standing.ensures.side c.requires.calm c.requires.begun.1 c.in_ok-input.ensures.read e.lent.1 e.lent.2 e.meta (e.upkeep (inl e.meta)) e.numbers e.whole (e.near refl) (e.near_files refl) in
-    let at = out_at g.D.Disk.tells g.D.Disk.seen g.D.Disk.now g.D.Disk.leaves g.D.Disk.faults by c.requires.begun.0 a b d input lent went in
-    (at.job, record { has = at.has; at = at.at }, at.takes, leaves_as g.D.Disk.tells g.D.Disk.seen g.D.Disk.now g.D.Disk.leaves g.D.Disk.faults by c.requires.begun.0 a b d input lent went)
+    let at = out_at g.D.Disk.tells g.D.Disk.seen g.D.Disk.now g.D.Disk.leaves g.D.Disk.faults by c.requires.begun.0 a b d input lent went in (
+      at.job,
+      record { has = at.has; at = at.at },
+      as_merge (TakesInputs d at.job × LeavesAs d.tablet at.job) (λ rowset. LeavesOne d.tablet at.job) at.job.want at.want (at.takes, leaves_as g.D.Disk.tells g.D.Disk.seen g.D.Disk.now g.D.Disk.leaves g.D.Disk.faults by c.requires.begun.0 a b d input lent went),
+    )
 
 pub job_leave-requires-clause-begun : goal.job_leave-requires-clause-begun
 job_leave-requires-clause-begun g c =

@@ -4,17 +4,13 @@ use Rattle.kt_engine.specs.Calls.{SeesOthers, HasNoDevice, StandsStill}
 use Rattle.kt_maint.specs.Calls.{AfterCall, HasAway, SameUpkeep}
 use Rattle.kt_maint.specs.declared.tries.Turn.TheVariants as turn
 use Rattle.kt_maint.proofs.Between.{call_ended, call_since, has_away, memory_since, told_ran, turn_at}
-use Rattle.kt_maint.proofs.Calling.{still_itself, still_then, same_then, done_then, nothing_then, sees_itself, sees_then}
+use Rattle.kt_maint.proofs.Calling.{still_itself, still_then, same_then, nothing_then, sees_itself, sees_then}
 use Rattle.kt_maint.proofs.run.run_job.Goals as goal
 
 pub tries-init : goal.tries-init
 tries-init g c =
     let itself = still_itself (part c.args.pass.now) c.requires.home in
     (((refl, refl), (refl, refl, refl), c.requires.enters.1), c.requires.home, itself.0, itself.1, sees_itself (number c.args.pass.now) (seen c.args.pass.now))
-
-pub returns-in-Over-Done-clause-still : goal.returns-in-Over-Done-clause-still
-returns-in-Over-Done-clause-still g c =
-    still_then (part c.args.pass.now) (part c.tries.pass) (part c.try_job.new.pass) c.tries.invariant.2 c.try_job.ensures.still
 
 pub returns-in-Over-Nothing-clause-still : goal.returns-in-Over-Nothing-clause-still
 returns-in-Over-Nothing-clause-still g c =
@@ -27,10 +23,6 @@ returns-in-Over-Stopped-clause-still g c =
 pub returns-in-Over-Memory-clause-still : goal.returns-in-Over-Memory-clause-still
 returns-in-Over-Memory-clause-still g c =
     still_then (part c.args.pass.now) (part c.tries.pass) (part c.try_job.new.pass) c.tries.invariant.2 c.try_job.ensures.still
-
-pub returns-in-Over-Done-clause-call : goal.returns-in-Over-Done-clause-call
-returns-in-Over-Done-clause-call g c =
-    done_then (part c.args.pass.now) (part c.tries.pass) (part c.try_job.new.pass) c.args.want.now c.tries.invariant.3 (turn_at c.args.want.now (part c.tries.pass) (part c.try_job.new.pass) (seen c.try_job.new.pass) c.in-Over-Done.field-0 turn.Done c.in-Over-Done.field-0-is c.in-Over-Done.ensures.start)
 
 pub returns-in-Over-Nothing-clause-call : goal.returns-in-Over-Nothing-clause-call
 returns-in-Over-Nothing-clause-call g c =
@@ -83,9 +75,6 @@ tries-preserved g c =
     )
 
 -- its points
-
-pub returns-in-Over-Done-clause-points : goal.returns-in-Over-Done-clause-points
-returns-in-Over-Done-clause-points g c = λ done. (c.try_job.new.job, c.tell_done.ensures)
 
 pub returns-in-Out-clause-points : goal.returns-in-Out-clause-points
 returns-in-Out-clause-points g c = λ done. (c.try_job.new.job, told_ran c.end_outside.result _ c.end_outside.ensures.done (sym c.answer.ensures ∙ done))

@@ -6,6 +6,7 @@ use Rattle.kt_maint.specs.Calls.{HasAway, LeavesNoJob}
 use Rattle.kt_maint.specs.Work.{LeftNone, TookAs}
 use Rattle.kt_maint.specs.Runs.{AddsStop}
 use Rattle.kt_maint.proofs.Calling.{told_by, left_told, stands_still, no_device_told, still_then, sees_stop, sees_then}
+use Rattle.kt_maint.specs.declared.jobs.Start.TheVariants as start
 use Rattle.kt_maint.proofs.work.take_step.Goals as goal
 
 pub leave_as-requires-clause-same : goal.leave_as-requires-clause-same
@@ -80,8 +81,9 @@ returns-in-Out-clause-none g c = λ none. c.finish.ensures.none
 
 -- the points of its job
 
-pub returns-in-Over-clause-points : goal.returns-in-Over-clause-points
-returns-in-Over-clause-points g c = λ worked. (c.pulse-job.result.begun, c.tell.ensures worked)
-
 pub returns-in-Out-clause-points : goal.returns-in-Out-clause-points
 returns-in-Out-clause-points g c = λ worked. (c.pulse-job.result.begun, c.finish.ensures.points worked)
+
+-- a turn by itself runs no job
+pub returns-in-Over-clause-points : goal.returns-in-Over-clause-points
+returns-in-Over-clause-points g c = λ worked. absurd (c.turn-took.ensures.worked (c.in-Over.is ∙ ap start.Over worked))
