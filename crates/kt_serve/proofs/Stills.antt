@@ -114,6 +114,10 @@ module _ {L D C : Type 0} where
     out = ap (λ h. out_of h y.log.out n') holds ∙ ap (λ b. cond b (Some y.log.out) None) (eq-eqb by n' (sym me)) ∙ ap Some out;
   }
 
+  -- what no visit was made to
+  pub still_self : (s : ℕ) (a : Option (PartView L D C)) (xs : List Event) → IsStill s a a xs xs
+  still_self s a xs = record { session = λ p e. (p, e, refl, refl); quiet = λ root h first found k. refl }
+
   -- what stands still twice
   pub still_then : (s : ℕ) (a b c : Option (PartView L D C)) (xs ys zs : List Event) → IsStill s a b xs ys → IsStill s b c ys zs → IsStill s a c xs zs
   still_then s a b c xs ys zs f g = record {

@@ -1,8 +1,8 @@
-//! The log as a pass brings it home.
+//! The log as a pass brings it home that was not appended to.
 ghost use Rattle.std.specs.Prelude.{◌≡◌, [], true, IsTrue};
 ghost use Rattle.kt_journal.specs.Log.{CanOpen};
 ghost use Rattle.kt_seatlock.specs.Passes.{number, seen, part, MayEnter, IsBack};
-ghost use Rattle.kt_serve.specs.Homes.{IsAppended, IsBroken, Returns};
+ghost use Rattle.kt_serve.specs.Homes.{IsBroken, Returns};
 ghost use Rattle.kt_serve.specs.Maintained.{KeepsUpkeep};
 ghost use Rattle.kt_serve.specs.Sessions.{HasNoLog, HasLog, IsStill, has_stop};
 
@@ -14,34 +14,13 @@ use kt_records::RecordList;
 use kt_seatlock::{Pass, SeatLock};
 use std::sync::Wait;
 
-// No record is left. The room that they had stays.
-fn emptied(records: RecordList) -> RecordList
+/// No record is left. The room that they had stays.
+pub fn emptied(records: RecordList) -> RecordList
     ensures { result ≡ [] }
 {
     let mut records = records.into_vec();
     records.clear();
     RecordList::of(records)
-}
-
-/// Brings home a log whose batch is durable. The records are let go of before the visit.
-pub fn take_home<L: Disk, D: Disk + Drop, C: Clock, R: Wait>(
-    rt: &R,
-    lock: &SeatLock<Engine<L, D, C>>,
-    pass: &mut Pass<Engine<L, D, C>>,
-    mut batch: Batch<L>,
-)
-    requires enters { MayEnter lock.now pass.old }
-    requires appended { Returns (IsAppended L.tells L.seen L.now L.leaves L.faults) (part pass.old) batch.journal }
-    ensures pass { IsBack pass.old pass.new }
-    ensures upkeep { KeepsUpkeep (part pass.old) (part pass.new) }
-    ensures still { IsStill (number pass.old) (part pass.old) (part pass.new) (seen pass.old) (seen pass.new) }
-    ensures home { HasNoLog (part pass.new) }
-{
-    let by = pass.number();
-    batch.records = emptied(batch.records);
-    let mut engine = lock.enter(rt, pass);
-    engine.log_home(by, batch);
-    lock.leave(pass, engine);
 }
 
 /// Brings home a log whose batch was not written for want of memory: it is queued again.

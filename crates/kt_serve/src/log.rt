@@ -1,13 +1,14 @@
 //! The log, taken out by a pass, appended to outside the lock, and brought home.
-ghost use Rattle.std.specs.Prelude.{◌≡◌, ◌≤◌, ℕ, Err, IsTrue, List, true, OnOk};
+ghost use Rattle.std.specs.Prelude.{◌≡◌, ℕ, Err, List, true, IfOk, OnErr, MatchOption};
 ghost use Rattle.kt_history.specs.declared.operation.RowOp.{RowOp};
 ghost use Rattle.kt_seatlock.specs.Passes.{number, seen, part, MayEnter, IsBack};
 ghost use Rattle.kt_engine.specs.Engines.{IsLent};
 ghost use Rattle.kt_engine.specs.Visits.{IsVisit};
+ghost use Rattle.kt_serve.specs.Homes.{IsAppended, Returns};
 ghost use Rattle.kt_serve.specs.Maintained.{KeepsUpkeep};
 ghost use Rattle.kt_serve.specs.Sessions.{Flies, LentBy, IsAloft, HasNoLog, HasLog, IsStill, AfterTurn, changes, has_stop};
 
-use crate::home::{take_back, take_broken, take_home};
+use crate::home::{emptied, take_back, take_broken};
 use kt_base::Clock;
 use kt_disk::Disk;
 use kt_engine::{Engine, LogNo};
@@ -100,27 +101,28 @@ fn ask_log<L: Disk, D: Disk + Drop, C: Clock, R: Wait>(
     turn
 }
 
-// Appends the batch, and brings the log home.
-fn bring_home<L: Disk, D: Disk + Drop, C: Clock, R: Wait>(
+// Appends the batch, whose log stays out to the pass. Where that does not come about the log is brought home.
+fn append<L: Disk, D: Disk + Drop, C: Clock, R: Wait>(
     rt: &R,
     alloc: Global,
     lock: &SeatLock<Engine<L, D, C>>,
     pass: &mut Pass<Engine<L, D, C>>,
     mut batch: Batch<L>,
-) -> Result<(), Halt>
+) -> Result<Batch<L>, Halt>
     requires enters { MayEnter lock.now pass.old }
     requires lent { HasLog (part pass.old) batch.journal batch.records }
     requires ready { IsLent L.tells L.seen L.now L.leaves batch.journal batch.records }
     ensures pass { IsBack pass.old pass.new }
     ensures upkeep { KeepsUpkeep (part pass.old) (part pass.new) }
     ensures still { IsStill (number pass.old) (part pass.old) (part pass.new) (seen pass.old) (seen pass.new) }
-    ensures home { HasNoLog (part pass.new) }
+    ensures appended { IfOk result (λ batch. Returns (IsAppended L.tells L.seen L.now L.leaves L.faults) (part pass.new) batch.journal) }
+    ensures home { OnErr result (HasNoLog (part pass.new)) }
     ensures stopped { result ≡ Err Halt.Stopped → has_stop (seen pass.new) ≡ true }
 {
     match batch.journal.append_batch(alloc, &batch.records) {
         Ok(()) => {
-            take_home(rt, lock, pass, batch);
-            Ok(())
+            batch.records = emptied(batch.records);
+            Ok(batch)
         }
         Err(AppendNo::Memory) => {
             take_back(rt, lock, pass, batch);
@@ -133,27 +135,28 @@ fn bring_home<L: Disk, D: Disk + Drop, C: Clock, R: Wait>(
     }
 }
 
-/// Makes the REPLICATE of the session's write durable: this pass does it, or waits for the one that has the log. Its visits wake nobody who rests, but those
-/// that take the log out and bring it home.
+/// Makes the REPLICATE of the session's write durable: this pass does it, and then has the log, which its next visit is to bring home; or it waits for the
+/// pass that has it. A visit that only asks wakes nobody who rests.
 pub fn make_durable<L: Disk, D: Disk + Drop, C: Clock, R: Wait>(
     rt: &R,
     alloc: Global,
     lock: &SeatLock<Engine<L, D, C>>,
     pass: &mut Pass<Engine<L, D, C>>,
-) -> Result<(), Halt>
+) -> Result<Option<Batch<L>>, Halt>
     requires enters { MayEnter lock.now pass.old }
     requires aloft { (i ts n : ℕ) × (ops : List RowOp) × IsAloft (part pass.old) (number pass.old) i ts ops n }
     requires home { HasNoLog (part pass.old) }
     ensures pass { IsBack pass.old pass.new }
     ensures upkeep { KeepsUpkeep (part pass.old) (part pass.new) }
     ensures still { IsStill (number pass.old) (part pass.old) (part pass.new) (seen pass.old) (seen pass.new) }
-    ensures home { HasNoLog (part pass.new) }
+    ensures appended { IfOk result (λ home. MatchOption home (HasNoLog (part pass.new)) (λ batch. Returns (IsAppended L.tells L.seen L.now L.leaves L.faults) (part pass.new) batch.journal)) }
+    ensures home { OnErr result (HasNoLog (part pass.new)) }
     ensures stopped { result ≡ Err Halt.Stopped → has_stop (seen pass.new) ≡ true }
 {
     for _ in rt.forever() {
         match ask_log(rt, alloc, lock, pass) {
-            LogTurn::Durable => return Ok(()),
-            LogTurn::Append(batch) => return bring_home(rt, alloc, lock, pass, batch),
+            LogTurn::Durable => return Ok(None),
+            LogTurn::Append(batch) => return Ok(Some(append(rt, alloc, lock, pass, batch)?)),
             LogTurn::Wait => lock.rest(rt, pass),
             LogTurn::Stopped => return Err(Halt::Stopped),
             LogTurn::Memory => return Err(Halt::Memory),

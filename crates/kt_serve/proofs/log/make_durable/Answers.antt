@@ -11,7 +11,7 @@ returns-in-Durable-clause-still g c = still_after _ _ _ _ _ _ _ _ c.loop.invaria
 
 pub returns-in-Append-clause-still : goal.returns-in-Append-clause-still
 returns-in-Append-clause-still g c =
-    still_after _ _ _ _ _ _ _ _ (c.ask_log.ensures.pass.0.1 ∙ c.loop.invariant.0.0.1) (still_after _ _ _ _ _ _ _ _ c.loop.invariant.0.0.1 c.loop.invariant.2 c.ask_log.ensures.still) c.bring_home.ensures.still
+    still_after _ _ _ _ _ _ _ _ (c.ask_log.ensures.pass.0.1 ∙ c.loop.invariant.0.0.1) (still_after _ _ _ _ _ _ _ _ c.loop.invariant.0.0.1 c.loop.invariant.2 c.ask_log.ensures.still) c.append.ensures.still
 
 pub loop-preserved : goal.loop-preserved
 loop-preserved g c = (
@@ -37,4 +37,11 @@ pub returns-in-Memory-clause-upkeep : goal.returns-in-Memory-clause-upkeep
 returns-in-Memory-clause-upkeep g c = upkeep_then _ _ _ c.loop.invariant.3 c.ask_log.ensures.upkeep
 
 pub returns-in-Append-clause-upkeep : goal.returns-in-Append-clause-upkeep
-returns-in-Append-clause-upkeep g c = upkeep_then _ _ _ (upkeep_then _ _ _ c.loop.invariant.3 c.ask_log.ensures.upkeep) c.bring_home.ensures.upkeep
+returns-in-Append-clause-upkeep g c = upkeep_then _ _ _ (upkeep_then _ _ _ c.loop.invariant.3 c.ask_log.ensures.upkeep) c.append.ensures.upkeep
+
+pub returns-in_err-append-in-Append-clause-upkeep : goal.returns-in_err-append-in-Append-clause-upkeep
+returns-in_err-append-in-Append-clause-upkeep g c = upkeep_then _ _ _ (upkeep_then _ _ _ c.loop.invariant.3 c.ask_log.ensures.upkeep) c.append.ensures.upkeep
+
+pub returns-in_err-append-in-Append-clause-still : goal.returns-in_err-append-in-Append-clause-still
+returns-in_err-append-in-Append-clause-still g c =
+    still_after _ _ _ _ _ _ _ _ (c.ask_log.ensures.pass.0.1 ∙ c.loop.invariant.0.0.1) (still_after _ _ _ _ _ _ _ _ c.loop.invariant.0.0.1 c.loop.invariant.2 c.ask_log.ensures.still) c.append.ensures.still

@@ -1,8 +1,11 @@
-use Rattle.std.proofs.Common.{Err, ap, ◌∙◌, arith}
-use Rattle.kt_serve.proofs.log.bring_home.Goals as goal
+use Rattle.std.proofs.Common.{Err, refl, ap, ◌∙◌, arith}
+use Rattle.kt_seatlock.specs.Passes.{number, seen, part}
+use Rattle.kt_serve.proofs.Rests.{upkeep_same}
+use Rattle.kt_serve.proofs.Stills.{still_self}
+use Rattle.kt_serve.proofs.log.append.Goals as goal
 
-pub take_home-requires-clause-appended : goal.take_home-requires-clause-appended
-take_home-requires-clause-appended g c = (
+pub returns-in-Ok-clause-appended : goal.returns-in-Ok-clause-appended
+returns-in-Ok-clause-appended g c = (
   c.args.batch.journal,
   c.args.batch.records,
   c.requires.lent,
@@ -17,6 +20,12 @@ take_home-requires-clause-appended g c = (
     moments = c.append_batch.ensures.any_moment;
   },
 )
+
+pub returns-in-Ok-clause-still : goal.returns-in-Ok-clause-still
+returns-in-Ok-clause-still g c = still_self (number c.args.pass.now) (part c.args.pass.now) (seen c.args.pass.now)
+
+pub returns-in-Ok-clause-upkeep : goal.returns-in-Ok-clause-upkeep
+returns-in-Ok-clause-upkeep g c = upkeep_same _ _ refl
 
 pub take_back-requires-clause-lent : goal.take_back-requires-clause-lent
 take_back-requires-clause-lent g c = rw (c.append_batch.ensures.memory (c.in-Err-Memory.is ∙ ap Err c.in-Err-Memory.field-0-is)) c.requires.lent
