@@ -1,5 +1,6 @@
 pub mod TableRules
 pub mod Images
+pub mod Moments
 pub mod Refusals
 pub mod Headline
 pub mod Crash

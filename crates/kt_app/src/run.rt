@@ -16,6 +16,8 @@ ghost use Rattle.kt_serve.specs.declared.session.SessionEnd.{SessionEnd};
 ghost use Rattle.kt_seatlock.specs.Passes.{number, given, passes_of, IsVacant, IsPassOf};
 ghost use Rattle.kt_serve.specs.Scans.{IsOn};
 ghost use Rattle.kt_app.specs.Images.{CrashLeaves, Both, SpellNear};
+ghost use Rattle.kt_app.specs.Moments.{LogGrew};
+ghost use Rattle.kt_storeside.specs.Published.{WasPublished};
 ghost use Rattle.kt_app.specs.Session.{IsCounted};
 ghost use Rattle.kt_app.specs.Played.{IsFresh, KeptOn, RanOn, IsWhole, HasPlayed};
 ghost use Rattle.kt_app.specs.Loaded.{IsText};
@@ -214,6 +216,11 @@ pub fn run_plan<
     ensures named { (files : Files) → CrashLeaves L.tells L.now L.leaves result.1.log files → (bound : ℕ) → 1 ≤ bound → engine.first_rowset ≤ bound + 1 → All (IsUpTo (bound + 1)) engine.found → HoldsRecords engine.records (IsBelow (bound + 2 ^ 45)) files }
     // No slot of the store spells a superblock that it did not spell as the run began, and whose numbers are far above those that opening gave.
     ensures spelled { (files : Files) → CrashLeaves D.tells D.now D.leaves result.1.store files → SpellNear engine.first_rowset engine.first_file engine.store.first.most (D.seen engine.store.first.device) files }
+
+    // At each moment of the run a crash left of the log what was durable then, or that and the batch that was out, and of the store the superblock that was
+    // published, or the one that went out to be, and the files that it names.
+    ensures log_moments { IsTrue L.tells → LogGrew L.seen L.now L.leaves L.faults engine.device engine.log.first result.1.log }
+    ensures store_moments { IsTrue D.tells → WasPublished D.seen D.now D.leaves engine.store.first.device result.1.store }
 
     // The devices may be opened again.
     ensures openable { IsTrue L.tells → CanOpen L.now L.leaves result.1.log }

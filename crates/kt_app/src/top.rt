@@ -15,6 +15,8 @@ ghost use Rattle.kt_storeside.specs.Supers.{NamedStand};
 ghost use Rattle.kt_reopen.specs.Opened.{IsRefusal, OneRose};
 ghost use Rattle.kt_app.specs.Headline.{IsNoScript};
 ghost use Rattle.kt_app.specs.Images.{CrashLeaves, IsRead, Both, KeepsFiles, LeavesAsBefore, NumbersAreNear, SpellNear};
+ghost use Rattle.kt_app.specs.Moments.{LogGrew, LogThroughout, StoreThroughout};
+ghost use Rattle.kt_storeside.specs.Published.{WasPublished};
 ghost use Rattle.kt_app.specs.Refusals.{IsSaid, IsLoadSaid, IsFaultOf, IsRefused, fault_text, refusal_text};
 ghost use Rattle.kt_app.specs.Crash.{Refuses, RunsPlan, RunsScript, LeavesFirst};
 ghost use Rattle.kt_disk.specs.Disk.{Files};
@@ -253,6 +255,8 @@ fn run_and_write<
     ensures others { IsTrue L.tells → KeepsOthers L.now L.leaves engine.device result.1.log }
     ensures named { (files : Files) → CrashLeaves L.tells L.now L.leaves result.1.log files → (bound : ℕ) → 1 ≤ bound → engine.first_rowset ≤ bound + 1 → All (IsUpTo (bound + 1)) engine.found → HoldsRecords engine.records (IsBelow (bound + 2 ^ 45)) files }
     ensures spelled { (files : Files) → CrashLeaves D.tells D.now D.leaves result.1.store files → SpellNear engine.first_rowset engine.first_file engine.store.first.most (D.seen engine.store.first.device) files }
+    ensures log_moments { IsTrue L.tells → LogGrew L.seen L.now L.leaves L.faults engine.device engine.log.first result.1.log }
+    ensures store_moments { IsTrue D.tells → WasPublished D.seen D.now D.leaves engine.store.first.device result.1.store }
     ensures openable { IsTrue L.tells → CanOpen L.now L.leaves result.1.log }
     ensures stand { IsTrue D.tells → NamedStand D.seen D.now D.leaves result.1.store }
 {
@@ -331,6 +335,8 @@ fn open_and_run<
     ensures crash { LeavesFirst (Grows (C.readings clock) (C.readings result.clock)) (Both (IsRead L.tells L.seen log) (IsRead D.tells D.seen store)) (CrashLeaves L.tells L.now L.leaves log) (CrashLeaves L.tells L.now L.leaves result.log) (CrashLeaves D.tells D.now D.leaves store) (CrashLeaves D.tells D.now D.leaves result.store) cells (record { columns = schema.now; plan = plan.now }) }
     ensures others { KeepsFiles (CrashLeaves L.tells L.now L.leaves log) (CrashLeaves L.tells L.now L.leaves result.log) }
     ensures near { NumbersAreNear (Both (CrashLeaves L.tells L.now L.leaves log) (CrashLeaves D.tells D.now D.leaves store)) (Both (CrashLeaves L.tells L.now L.leaves result.log) (CrashLeaves D.tells D.now D.leaves result.store)) }
+    ensures log_moments { IsTrue L.tells → LogThroughout L.seen L.now L.leaves L.faults log result.log }
+    ensures store_moments { IsTrue D.tells → StoreThroughout D.seen D.now D.leaves schema.now store result.store }
     ensures openable { IsTrue L.tells → CanOpen L.now L.leaves result.log }
     ensures stand { IsTrue D.tells → NamedStand D.seen D.now D.leaves result.store }
 {
@@ -445,6 +451,15 @@ pub fn tablet_main<
     // might have had before.
     ensures others { KeepsFiles (CrashLeaves L.tells L.now L.leaves log) (CrashLeaves L.tells L.now L.leaves result.log) }
     ensures near { NumbersAreNear (Both (CrashLeaves L.tells L.now L.leaves log) (CrashLeaves D.tells D.now D.leaves store)) (Both (CrashLeaves L.tells L.now L.leaves result.log) (CrashLeaves D.tells D.now D.leaves result.store)) }
+
+    // Whatever the status, at each moment of the call a crash left the frames of the log of an image from before the call; or the log was opened, and behind
+    // the records that it then had batches were appended one behind another, so that a crash left what was durable, or that and a batch. No batch has both a
+    // write and its COMMIT: what a write has done is durable before that comes.
+    ensures log_moments { IsTrue L.tells → LogThroughout L.seen L.now L.leaves L.faults log result.log }
+
+    // It left the superblock of an image of the store from before, or the first one, with the files that it names; or the store was opened, and superblocks were
+    // published one behind another, so that a crash left the one that was published, or the one that was to be, and the files that it names.
+    ensures store_moments { IsTrue D.tells → (result.store ≡ store) ⊎ ((said : Said) × IsSaid (S.left source.old) said × StoreThroughout D.seen D.now D.leaves said.columns store result.store) }
 
     // The devices may be opened again, whatever the status.
     ensures openable { IsTrue L.tells → CanOpen L.now L.leaves result.log }

@@ -3,7 +3,7 @@ ghost use Rattle.std.specs.Prelude.{◌≡◌, ◌≢◌, ◌≤◌, ◌<◌, �
 ghost use Rattle.kt_disk.specs.Disk.{LeavesOnly};
 ghost use Rattle.kt_history.specs.History.{Past};
 ghost use Rattle.kt_journal.specs.Frames.{IsFrom};
-ghost use Rattle.kt_journal.specs.Log.{log_of, IsLog, CanOpen};
+ghost use Rattle.kt_journal.specs.Log.{log_of, records_of, IsLog, CanOpen};
 ghost use Rattle.kt_schema.specs.Columns.{fill_of};
 ghost use Rattle.kt_super.specs.Body.{IsMeta};
 ghost use Rattle.kt_super.specs.Slots.{super_of, AreStable};
@@ -21,6 +21,7 @@ ghost use Rattle.kt_reopen.specs.Holding.{HoldBoth, KeepsContent, IsOfStore};
 ghost use Rattle.kt_reopen.specs.Numbers.{next_rowset};
 ghost use Rattle.kt_reopen.specs.Opened.{first_meta, IsRefusal, OneRose};
 ghost use Rattle.kt_engine.specs.Engines.{IsContent};
+ghost use Rattle.kt_engine.specs.Jobs.{no_upkeep};
 ghost use Rattle.kt_engine.specs.Near.{first_number};
 ghost use Rattle.kt_boot.specs.Opening.{StandsOn};
 
@@ -87,6 +88,7 @@ pub fn open_tablet<L: Disk, D: Disk + Drop, C: Clock>(
     ensures clock { IfOk result (λ engine. (engine.tablet.clock ≡ clock) × (engine.tablet.opened ≡ clock)) }
     ensures devices { IfOk result (λ engine. (engine.log.holder ≡ None) × (engine.device ≡ log) × (engine.store_device ≡ store)) }
     ensures home { IfOk result (λ engine. engine.store.holder ≡ None) }
+    ensures jobs { IfOk result (λ engine. engine.upkeep ≡ no_upkeep) }
 
     // Its records are those of the log, its superblock that of the store, or the first one. Other files of the store are gone.
     ensures records { IfOk result (λ engine. IsTrue L.tells → log_of (L.seen log) ≡ Ok engine.records) }
@@ -97,10 +99,12 @@ pub fn open_tablet<L: Disk, D: Disk + Drop, C: Clock>(
     ensures removed { IfOk result (λ engine. IsTrue D.tells → (n : ℕ) → is_kept (named_in engine.store.meta.rowsets) n ≡ false → D.seen engine.store.known n ≡ None) }
     ensures stable { IfOk result (λ engine. IsTrue D.tells → AreStable D.seen D.now D.leaves engine.store.known) }
 
-    // It knows the names of its stores, the numbers that it begins with, the store as opening left it, and how great the numbers of a superblock may grow.
+    // It knows the names of its stores, the numbers that it begins with, both devices as opening left them, and how great the numbers of a superblock may grow.
     ensures names { IfOk result (λ engine. engine.found ≡ engine.tablet.names) }
     ensures first_rowset { IfOk result (λ engine. engine.first_rowset ≡ engine.store.next_rowset) }
     ensures first_file { IfOk result (λ engine. engine.first_file ≡ engine.store.next_file) }
+    ensures first_log { IfOk result (λ engine. engine.log.first ≡ engine.log.known.disk) }
+    ensures first_records { IfOk result (λ engine. IsTrue L.tells → records_of (L.seen engine.log.first) ≡ engine.records) }
     ensures first_store { IfOk result (λ engine. engine.store.first ≡ record { device = engine.store.known; most = most_from engine.store.meta (first_number engine.tablet.names) engine.store.next_rowset }) }
 
     // A rowset gets a number that neither the superblock nor a COMMIT of the log has named, and a file one that the superblock gives next.

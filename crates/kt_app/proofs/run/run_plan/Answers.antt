@@ -7,6 +7,7 @@ use Rattle.kt_engine.specs.Visits.{root_of}
 use Rattle.kt_engine.specs.Pairs.{AreHome}
 use Rattle.kt_app.proofs.Runnable.{plan_keeps}
 use Rattle.kt_app.proofs.RunLaws.{ran_as, ran_with}
+use Rattle.kt_app.proofs.Moments.{log_grew, store_published}
 use Rattle.kt_app.proofs.Runs.{kept_of, ran_of, keeps_others, opens_again, names_more, spells_more, no_fault_less, some_failed, store_no_less}
 use Rattle.kt_app.proofs.run.run_plan.Goals as goal
 
@@ -170,3 +171,31 @@ returns-in-Err-clause-spelled g c =
     let journal = c.take_apart-parts.ensures.log in
     let home : AreHome c.play-played.result.1 parts.log parts.store = record { journal = journal.0; log_home = journal.1; log_is = journal.2; store_home = c.take_apart-parts.ensures.store } in
     spells_more c.args.engine c.play-played.result.1 c.args.plan.now parts.log parts.store (c.play-played.ensures.root ∙ ap root_of c.set_plan.ensures) c.standing.ensures.home home g.D.Disk.tells g.D.Disk.seen g.D.Disk.now g.D.Disk.leaves c.standing.ensures.stored c.standing.ensures.made
+
+pub returns-in-Ok-clause-log_moments : goal.returns-in-Ok-clause-log_moments
+returns-in-Ok-clause-log_moments g c =
+    let parts = c.take_apart-parts.result in
+    let journal = c.take_apart-parts.ensures.log in
+    let home : AreHome c.play-played.result.1 parts.log parts.store = record { journal = journal.0; log_home = journal.1; log_is = journal.2; store_home = c.take_apart-parts.ensures.store } in
+    log_grew c.args.engine c.play-played.result.1 c.args.plan.now parts.log parts.store (c.play-played.ensures.root ∙ ap root_of c.set_plan.ensures) c.standing.ensures.home home c.standing.ensures.log_moments
+
+pub returns-in-Ok-clause-store_moments : goal.returns-in-Ok-clause-store_moments
+returns-in-Ok-clause-store_moments g c =
+    let parts = c.take_apart-parts.result in
+    let journal = c.take_apart-parts.ensures.log in
+    let home : AreHome c.play-played.result.1 parts.log parts.store = record { journal = journal.0; log_home = journal.1; log_is = journal.2; store_home = c.take_apart-parts.ensures.store } in
+    store_published c.args.engine c.play-played.result.1 c.args.plan.now parts.log parts.store (c.play-played.ensures.root ∙ ap root_of c.set_plan.ensures) c.standing.ensures.home home g.D.Disk.tells g.D.Disk.seen g.D.Disk.now g.D.Disk.leaves c.standing.ensures.store_moments
+
+pub returns-in-Err-clause-log_moments : goal.returns-in-Err-clause-log_moments
+returns-in-Err-clause-log_moments g c =
+    let parts = c.take_apart-parts.result in
+    let journal = c.take_apart-parts.ensures.log in
+    let home : AreHome c.play-played.result.1 parts.log parts.store = record { journal = journal.0; log_home = journal.1; log_is = journal.2; store_home = c.take_apart-parts.ensures.store } in
+    log_grew c.args.engine c.play-played.result.1 c.args.plan.now parts.log parts.store (c.play-played.ensures.root ∙ ap root_of c.set_plan.ensures) c.standing.ensures.home home c.standing.ensures.log_moments
+
+pub returns-in-Err-clause-store_moments : goal.returns-in-Err-clause-store_moments
+returns-in-Err-clause-store_moments g c =
+    let parts = c.take_apart-parts.result in
+    let journal = c.take_apart-parts.ensures.log in
+    let home : AreHome c.play-played.result.1 parts.log parts.store = record { journal = journal.0; log_home = journal.1; log_is = journal.2; store_home = c.take_apart-parts.ensures.store } in
+    store_published c.args.engine c.play-played.result.1 c.args.plan.now parts.log parts.store (c.play-played.ensures.root ∙ ap root_of c.set_plan.ensures) c.standing.ensures.home home g.D.Disk.tells g.D.Disk.seen g.D.Disk.now g.D.Disk.leaves c.standing.ensures.store_moments

@@ -9,6 +9,7 @@ use Rattle.kt_engine.specs.Near.{first_number}
 use Rattle.kt_app.specs.Images.{CrashLeaves, Both, KeepsFiles, IsSlotNumber, NumbersAreNear, SpellNear}
 use Rattle.kt_app.specs.Refusals.{refusal_text}
 use Rattle.kt_app.proofs.Numbers.{keeps_files, frames_files, frames_near, still_near, next_low, slots_up, next_spelled, near_at, store_at}
+use Rattle.kt_app.proofs.Moments.{log_rests, store_rests, log_shut, store_shut, log_went, store_went}
 use Rattle.kt_app.proofs.SourceLaws.{either}
 use Rattle.kt_app.proofs.RunLaws.{is_on, was_refused, as_before, let_be, runs_over, kept_over, rose_as, neither_rose}
 use Rattle.kt_app.proofs.top.open_and_run.Goals as goal
@@ -235,3 +236,32 @@ returns-in_default-clause-openable g c = let is = c.end_with.ensures in rw is.1 
 
 pub returns-in_default-clause-stand : goal.returns-in_default-clause-stand
 returns-in_default-clause-stand g c = let is = c.end_with.ensures in rw is.2 c.requires.stand
+
+-- at each moment of the call
+pub returns-in_default-clause-log_moments : goal.returns-in_default-clause-log_moments
+returns-in_default-clause-log_moments g c = λ told. let is = c.end_with.ensures in log_rests g.L.Disk.seen g.L.Disk.now g.L.Disk.leaves g.L.Disk.faults c.args.log _ is.1
+
+pub returns-in_default-clause-store_moments : goal.returns-in_default-clause-store_moments
+returns-in_default-clause-store_moments g c = λ told. let is = c.end_with.ensures in store_rests g.D.Disk.seen g.D.Disk.now g.D.Disk.leaves c.args.schema.now c.args.store _ is.2
+
+pub returns-in-Err-clause-log_moments : goal.returns-in-Err-clause-log_moments
+returns-in-Err-clause-log_moments g c = λ told. let is = c.end_with-in-Err.ensures in log_shut g.L.Disk.seen g.L.Disk.now g.L.Disk.leaves g.L.Disk.faults c.args.log c.in-Err.closed.log _ is.1 (c.in-Err.ensures.log_moment_err told)
+
+pub returns-in-Err-clause-store_moments : goal.returns-in-Err-clause-store_moments
+returns-in-Err-clause-store_moments g c = λ told. let is = c.end_with-in-Err.ensures in store_shut g.D.Disk.seen g.D.Disk.now g.D.Disk.leaves c.args.schema.now c.args.store c.in-Err.closed.store _ is.2 (c.in-Err.ensures.store_moment_err told)
+
+pub returns-in-Ok-open_tablet-clause-log_moments : goal.returns-in-Ok-open_tablet-clause-log_moments
+returns-in-Ok-open_tablet-clause-log_moments g c = λ told.
+    let is = c.end_with-in-Ok-open_tablet.ensures in
+    let opened = c.in-Ok-open_tablet.ensures in
+    let engine = c.in-Ok-open_tablet.engine in
+    log_went g.L.Disk.seen g.L.Disk.now g.L.Disk.leaves g.L.Disk.faults c.args.log engine.device engine.log.first engine.log.known.disk c.run_and_write-status.result.1.log _ engine.records is.1 opened.devices.1 opened.first_log (opened.records told) (opened.first_records told) (opened.log_moment told)
+    (c.run_and_write-status.ensures.log_moments told)
+
+pub returns-in-Ok-open_tablet-clause-store_moments : goal.returns-in-Ok-open_tablet-clause-store_moments
+returns-in-Ok-open_tablet-clause-store_moments g c = λ told.
+    let is = c.end_with-in-Ok-open_tablet.ensures in
+    let opened = c.in-Ok-open_tablet.ensures in
+    let engine = c.in-Ok-open_tablet.engine in
+    store_went g.D.Disk.seen g.D.Disk.now g.D.Disk.leaves c.args.schema.now c.args.store engine.store.first.device engine.store.known c.run_and_write-status.result.1.store _ is.2 (ap (λ (b : Beginning _). b.device) opened.first_store) (opened.store_moment told)
+    (c.run_and_write-status.ensures.store_moments told)

@@ -8,6 +8,7 @@ use Rattle.kt_reopen.specs.Opened.{OneRose}
 use Rattle.kt_app.specs.Images.{CrashLeaves, IsRead, Both}
 use Rattle.kt_app.specs.Crash.{RunsPlan}
 use Rattle.kt_app.proofs.Numbers.{still_near}
+use Rattle.kt_app.proofs.Moments.{log_rests}
 use Rattle.kt_app.proofs.Loads.{least_cells}
 use Rattle.kt_app.proofs.SourceLaws.{said_is, runs_script, stops_script, either}
 use Rattle.kt_app.proofs.top.tablet_main.Goals as goal
@@ -125,3 +126,38 @@ returns-in-Err-Memory-take_script-clause-openable g c = let is = c.end_with-in-E
 
 pub returns-in-Err-Memory-take_script-clause-stand : goal.returns-in-Err-Memory-take_script-clause-stand
 returns-in-Err-Memory-take_script-clause-stand g c = let is = c.end_with-in-Err-Memory-take_script.ensures in rw is.2 c.requires.stand
+
+pub returns-in-Err-Form-clause-log_moments : goal.returns-in-Err-Form-clause-log_moments
+returns-in-Err-Form-clause-log_moments g c = λ told. let is = c.end_with.ensures in log_rests g.L.Disk.seen g.L.Disk.now g.L.Disk.leaves g.L.Disk.faults c.args.log _ is.1
+
+pub returns-in-Err-Form-clause-store_moments : goal.returns-in-Err-Form-clause-store_moments
+returns-in-Err-Form-clause-store_moments g c = λ told. let is = c.end_with.ensures in inl is.2
+
+pub returns-in-Err-Memory-clause-log_moments : goal.returns-in-Err-Memory-clause-log_moments
+returns-in-Err-Memory-clause-log_moments g c = λ told. let is = c.end_with-in-Err-Memory.ensures in log_rests g.L.Disk.seen g.L.Disk.now g.L.Disk.leaves g.L.Disk.faults c.args.log _ is.1
+
+pub returns-in-Err-Memory-clause-store_moments : goal.returns-in-Err-Memory-clause-store_moments
+returns-in-Err-Memory-clause-store_moments g c = λ told. let is = c.end_with-in-Err-Memory.ensures in inl is.2
+
+pub returns-in-Err-Line-clause-log_moments : goal.returns-in-Err-Line-clause-log_moments
+returns-in-Err-Line-clause-log_moments g c = λ told. let is = c.end_with-in-Err-Line.ensures in log_rests g.L.Disk.seen g.L.Disk.now g.L.Disk.leaves g.L.Disk.faults c.args.log _ is.1
+
+pub returns-in-Err-Line-clause-store_moments : goal.returns-in-Err-Line-clause-store_moments
+returns-in-Err-Line-clause-store_moments g c = λ told. let is = c.end_with-in-Err-Line.ensures in inl is.2
+
+pub returns-in-Err-Failed-clause-log_moments : goal.returns-in-Err-Failed-clause-log_moments
+returns-in-Err-Failed-clause-log_moments g c = λ told. let is = c.end_with-in-Err-Failed.ensures in log_rests g.L.Disk.seen g.L.Disk.now g.L.Disk.leaves g.L.Disk.faults c.args.log _ is.1
+
+pub returns-in-Err-Failed-clause-store_moments : goal.returns-in-Err-Failed-clause-store_moments
+returns-in-Err-Failed-clause-store_moments g c = λ told. let is = c.end_with-in-Err-Failed.ensures in inl is.2
+
+pub returns-in-Err-Memory-take_script-clause-log_moments : goal.returns-in-Err-Memory-take_script-clause-log_moments
+returns-in-Err-Memory-take_script-clause-log_moments g c = λ told. let is = c.end_with-in-Err-Memory-take_script.ensures in log_rests g.L.Disk.seen g.L.Disk.now g.L.Disk.leaves g.L.Disk.faults c.args.log _ is.1
+
+pub returns-in-Err-Memory-take_script-clause-store_moments : goal.returns-in-Err-Memory-take_script-clause-store_moments
+returns-in-Err-Memory-take_script-clause-store_moments g c = λ told. let is = c.end_with-in-Err-Memory-take_script.ensures in inl is.2
+
+pub returns-in-Ok-take_script-clause-store_moments : goal.returns-in-Ok-take_script-clause-store_moments
+returns-in-Ok-take_script-clause-store_moments g c = λ told.
+    let s : Said = record { columns = c.in-Ok-take_script.field-0.schema; plan = c.in-Ok-take_script.field-0.plan } in
+    inr (s, c.in-Ok-take_script.ensures.said, c.open_and_run.ensures.store_moments told)

@@ -2,7 +2,7 @@ use Rattle.std.proofs.Common.{◌≡◌, ◌≤◌, ℕ, List, length, Ok, refl,
 use Rattle.kt_history.specs.declared.target.Target.{Target}
 use Rattle.kt_history.specs.Rows.{Row}
 use Rattle.kt_records.specs.declared.entry.Entry.{Entry}
-use Rattle.kt_journal.specs.Log.{CanOpen}
+use Rattle.kt_journal.specs.Log.{records_of, CanOpen}
 use Rattle.kt_schema.specs.Columns.{fill_of}
 use Rattle.kt_content.specs.Places.{Super}
 use Rattle.kt_content.specs.Content.{IsContent as HoldsPast}
@@ -381,3 +381,13 @@ returns-in-Ok-of-2-clause-first_store g c =
     let names : c.in-Ok-of-2.engine.tablet.names ≡ c.in-Ok-of.tablet.names = ap (λ e. e.tablet.names) c.in-Ok-of-2.ensures.view in
     let mem = first_is c.in-Ok-of.tablet.names c.active_number-mem.result c.active_number-mem.ensures in
     rw (store, names, c.of-side.ensures) (ap (λ (n : ℕ). let b : Beginning _ = record { device = c.open_devices.new.store; most = most_from c.in-Ok.opened.meta n c.in-Ok.opened.next_rowset } in b) mem)
+
+pub returns-in-Ok-of-2-clause-first_log : goal.returns-in-Ok-of-2-clause-first_log
+returns-in-Ok-of-2-clause-first_log g c =
+    let view = c.in-Ok-of-2.ensures.view in
+    ap (λ e. e.log.first) view ∙ sym (ap (λ e. e.log.known.disk) view)
+
+pub returns-in-Ok-of-2-clause-first_records : goal.returns-in-Ok-of-2-clause-first_records
+returns-in-Ok-of-2-clause-first_records g c = λ told.
+    let view = c.in-Ok-of-2.ensures.view in
+    ap (λ e. records_of (g.L.Disk.seen e.log.first)) view ∙ (c.in-Ok.ensures.reads told ∙ sym (ap (λ e. e.records) view))
