@@ -89,7 +89,7 @@ module _ (S C V : RattleType) (f : FileStore.Ghosts S.Denot V.Denot) (g : RowSto
 module _ (L : RattleType) (g : Disk.Ghosts L.Denot) where
   pub side_send : IsSend L → IsSend (LogSide.the_row L g)
   side_send l = view_send (Side.the_row L g) _ _ _ _ (recorded_send (Side.the_field L g).row _ _ (Side.the_type L g).to_one (struct_send (shape (Side.the_type L g))
-      (search (sendable, crosses, journal.the_send, l) depth 20, (plain_send _ _ _ _ _, (plain_send _ _ _ _ _, (plain_send _ _ _ _ _, (plain_send _ _ _ _ _, (Vec-send _ entry.the_send, (Vec-send _ entry.the_send, (plain_send _ _ _ _ _, (search (sendable, crosses), (search (sendable, crosses), tt))))))))))))
+      (search (sendable, crosses, journal.the_send, l) depth 20, (plain_send _ _ _ _ _, (plain_send _ _ _ _ _, (plain_send _ _ _ _ _, (plain_send _ _ _ _ _, (Vec-send _ entry.the_send, (Vec-send _ entry.the_send, (plain_send _ _ _ _ _, (search (sendable, crosses), (search (sendable, crosses), (search (sendable, crosses), tt)))))))))))))
 
 module _ (D : RattleType) (g : Disk.Ghosts D.Denot) where
   pub store_send : IsSend D → IsSend (StoreSide.the_row D g)

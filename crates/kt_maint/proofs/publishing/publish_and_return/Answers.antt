@@ -4,7 +4,9 @@ use Rattle.kt_engine.specs.Jobs.{JobView}
 use Rattle.std.proofs.Math.Nat.{le-max_left}
 use Rattle.kt_engine.specs.Moments.{LeavesInTurn}
 use Rattle.kt_engine.specs.Near.{most_rowsets, most_files}
+use Rattle.kt_super.specs.Slots.{super_of}
 use Rattle.kt_storeside.specs.Sides.{published_in}
+use Rattle.kt_storeside.specs.Turns.{HasOneOf}
 use Rattle.kt_maint.proofs.Failed.{of_lent}
 use Rattle.kt_maint.proofs.Stages.{some_is}
 use Rattle.kt_maint.proofs.Visiting.{came_broken}
@@ -55,3 +57,8 @@ pub stop-requires-clause-store_moments : goal.stop-requires-clause-store_moments
 stop-requires-clause-store_moments g c = λ lent same.
     let s = c.args.engine.now.store in
     of_lent (λ l. IsTrue g.D.Disk.tells → LeavesInTurn g.D.Disk.seen g.D.Disk.now g.D.Disk.leaves s.lent s.next_file l.next_file s.known l.device) _ lent same (λ t. subst (λ o. LeavesInTurn g.D.Disk.seen g.D.Disk.now g.D.Disk.leaves o s.next_file c.args.lent.next_file s.known c.publish-answer.new.disk) (sym (c.requires.publishing.is.1 ∙ sym c.requires.publishing.is.0 ∙ c.in-Some.is)) (rw (← c.requires.publishing.device) (c.publish-answer.ensures.any_moment t)))
+
+pub stop-requires-clause-one_of : goal.stop-requires-clause-one_of
+stop-requires-clause-one_of g c = λ lent same.
+    let s = c.args.engine.now.store in
+    of_lent (λ l. IsTrue g.D.Disk.tells → HasOneOf g.D.Disk.now g.D.Disk.leaves s.meta (published_in true s.lent s.meta) l.device) _ lent same (λ t. subst (λ o. HasOneOf g.D.Disk.now g.D.Disk.leaves s.meta (published_in true o s.meta) c.publish-answer.new.disk) (sym (c.requires.publishing.is.1 ∙ sym c.requires.publishing.is.0 ∙ c.in-Some.is)) (c.publish-answer.ensures.one_of t s.meta (ap (λ d. super_of (g.D.Disk.seen d)) c.requires.publishing.device ∙ (c.standing.ensures.side.publishes t).superblock)))
